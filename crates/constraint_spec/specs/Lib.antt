@@ -1,0 +1,4 @@
+pub mod Word
+pub mod Walk
+pub mod Constraint
+pub mod Ranges
