@@ -1,6 +1,6 @@
 -- A constraint on words, as plain data, and which words belong to it.
 use Rattle.std.specs.Prelude.{◌≢◌, ℕ, ◌+◌, ◌<◌, ◌≤◌, List, [], ◌∷◌, ◌++◌, replicate, Option, IfSome, Contains}
-use Rattle.std.specs.List.{AllByRecursion}
+use Rattle.symbol_base.specs.Word.{IsOver}
 use Rattle.constraint_spec.specs.declared.GraphEdge.{GraphEdge}
 use Rattle.constraint_spec.specs.Word.{IsFactor}
 use Rattle.constraint_spec.specs.Walk.{IsWalk}
@@ -17,7 +17,7 @@ pub record ConstraintData : Type 0 where
 -- The word belongs to the constraint: it satisfies each part that is given.
 pub record IsWordOf (c : ConstraintData) (w : List ℕ) : Type 0 where
   -- it is written in the constraint's symbols
-  pub symbols : AllByRecursion (λ symbol. symbol < c.alphabet) w
+  pub symbols : IsOver c.alphabet w
   -- two 1s with nothing but 0s between them have at least d between them
   pub ones : (n : ℕ) → IsFactor (1 ∷ (replicate n 0 ++ 1 ∷ [])) w → c.d ≤ n
   -- no run of 0s is longer than k, where k is given

@@ -1,8 +1,7 @@
 -- The ranges and orders that the parts of a constraint keep.
-use Rattle.std.specs.Prelude.{◌≡◌, ℕ, ◌<◌, ◌≤◌, ◌↔◌, ◌⊎◌, List, [], ◌∷◌, length, IfSome}
-use Rattle.std.specs.List.{AllByRecursion}
+use Rattle.std.specs.Prelude.{◌≡◌, ℕ, ◌<◌, ◌≤◌, ◌↔◌, ◌⊎◌, List, [], ◌∷◌, length, All, IfSome}
+use Rattle.symbol_base.specs.Word.{IsOver, IsBefore}
 use Rattle.constraint_spec.specs.declared.GraphEdge.{GraphEdge}
-use Rattle.constraint_spec.specs.Word.{IsBefore}
 use Rattle.constraint_spec.specs.Constraint.{ConstraintData}
 
 -- each item stands before the next one, so none comes twice
@@ -18,7 +17,7 @@ IsEdgeBefore e f =
 
 -- a forbidden word has 1 to 32 symbols of the alphabet
 abbrev pub IsForbiddable : ℕ → List ℕ → Type 0
-IsForbiddable alphabet word = (1 ≤ length word) × (length word ≤ 32) × AllByRecursion (λ symbol. symbol < alphabet) word
+IsForbiddable alphabet word = (1 ≤ length word) × (length word ≤ 32) × IsOver alphabet word
 
 abbrev pub IsEdgeOf : ConstraintData → GraphEdge → Type 0
 IsEdgeOf c e = (e.from < c.states) × (e.label < c.alphabet) × (e.to < c.states)
@@ -29,10 +28,10 @@ pub record IsConstraint (c : ConstraintData) : Type 0 where
   pub d : c.d ≤ 100
   pub k : IfSome c.k (λ k. (c.d ≤ k) × (k ≤ 100))
   pub forbid_count : length c.forbid ≤ 128
-  pub forbid_words : AllByRecursion (IsForbiddable c.alphabet) c.forbid
+  pub forbid_words : All (IsForbiddable c.alphabet) c.forbid
   pub forbid_order : IsAscending IsBefore c.forbid
   pub states : c.states ≤ 256
   pub graph : (c.states ≡ 0) ↔ (c.edges ≡ [])
   pub edge_count : length c.edges ≤ 2048
-  pub edges : AllByRecursion (IsEdgeOf c) c.edges
+  pub edges : All (IsEdgeOf c) c.edges
   pub edge_order : IsAscending IsEdgeBefore c.edges

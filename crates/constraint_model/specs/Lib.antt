@@ -1,0 +1,7 @@
+pub mod Data
+pub mod RunLength
+pub mod Front
+pub use Rattle.constraint_spec.specs.Word
+pub use Rattle.constraint_spec.specs.Walk
+pub use Rattle.constraint_spec.specs.Constraint
+pub use Rattle.constraint_spec.specs.Ranges
