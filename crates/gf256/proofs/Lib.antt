@@ -1,0 +1,11 @@
+pub mod Polynomials
+pub mod Remainders
+pub mod PowerTables
+pub mod FieldLaws
+mod Logarithms
+pub mod Lists
+mod RowSteps
+pub mod NullSpaces
+mod UnitColumns
+pub mod NullVectors
+mod Solutions

@@ -1,0 +1,3 @@
+pub mod Field
+pub mod Linear
+pub mod Elimination
