@@ -1,0 +1,316 @@
+-- What the loops over a word's weighted sums keep.
+use Rattle.std.proofs.Common.{◌≡◌, ◌≢◌, ℕ, zero, suc, ◌+◌, ◌-◌, ◌*◌, ◌<◌, ◌≤◌, List, [], ◌∷◌, ◌++◌, length, take, drop, set, refl, sym, ◌∙◌, ap, arith, subst, get_or, length-append, add-one, add-zero, zero-add, below_more, get_or-set_other, get_or-set_same, drop-drop, length-set, append-nil, replicate}
+use Rattle.std.proofs.lemmas.List.{take_more, take_more_set, take_all, length-map, length-take-le, map_push, length_push, map-set, take-map, drop-map, drop_more, get_or-map, get_or-take, get_or-drop, drop-set-lt}
+use Rattle.std.proofs.lemmas.Bool.{ne_eqb}
+use Rattle.std.specs.Prelude.{bit_xor}
+use Rattle.gf256.specs.Field.{IsElement, plus, times, power, alpha}
+use Rattle.gf256.proofs.FieldLaws.{plus_comm, plus_assoc, plus-zero, zero-plus, zero-times, times-one, plus-times, power-mul, times_comm, times_assoc, power-zero, power-suc, power-add}
+use Rattle.rs_code.specs.Word.{weighted_sum}
+use Rattle.rs_code.specs.Polynomial.{sum_of, value_at}
+use Rattle.rs_code.specs.Errors.{weight, moment, powers, HasRoots, IsRooted, AreBelow, AreDistinct, IsEquation, root_exponents}
+use Rattle.gf256.specs.declared.Gf.{Gf}
+use Rattle.gf256.specs.Linear.{values, matrix, dot, Solves, square, IsVector, IsNonzero, IsSingular}
+use Rattle.rs_code.proofs.Moments.{AreZero, moment-AreZero, vanishing}
+use Rattle.rs_code.proofs.Locators.{at-sum_of}
+use Rattle.rs_code.proofs.Patterns.{dot-moment}
+use Rattle.rs_code.proofs.Words.{elements_of, points, weighted_sum-moment}
+use Rattle.rs_code.proofs.Roots.{Elements-powers, at_zeros, few_roots, root_exponents_hold, AreRootExponents}
+
+-- a further symbol: Horner's step
+pub weighted_sum-push : (word : List ℕ) (symbol i : ℕ) → IsElement symbol
+    → weighted_sum (word ++ symbol ∷ []) i ≡ plus (times (weighted_sum word i) (power alpha i)) symbol
+weighted_sum-push [] symbol i symbol_in =
+    let none : 0 * i ≡ 0 = omega arith in
+    rw (none, power-zero alpha, times-one symbol symbol_in, plus-zero symbol, zero-times (power alpha i), zero-plus symbol) refl
+weighted_sum-push (first ∷ word) symbol i symbol_in =
+    let longer : length (word ++ symbol ∷ []) * i ≡ length word * i + i = rw (length-append word (symbol ∷ [])) (omega arith) in
+    rw (
+      longer,
+      power-add alpha (length word * i) i,
+      weighted_sum-push word symbol i symbol_in,
+      plus-times (times first (power alpha (length word * i))) (weighted_sum word i) (power alpha i),
+      times_assoc first (power alpha (length word * i)) (power alpha i),
+    )
+    (sym (plus_assoc _ _ _))
+
+pub weighted_sum_more : (word : List ℕ) (k i : ℕ) → k < length word → IsElement (get_or word k 0)
+    → weighted_sum (take (k + 1) word) i ≡ plus (times (weighted_sum (take k word) i) (power alpha i)) (get_or word k 0)
+weighted_sum_more word k i within symbol_in =
+    rw (take_more word k 0 within) (weighted_sum-push (take k word) (get_or word k 0) i symbol_in)
+
+-- the next point
+pub next_point : (point next i : ℕ) → point ≡ power alpha i → next ≡ times point alpha → next ≡ power alpha (i + 1)
+next_point point next i here step =
+    step ∙ rw (here, times_comm (power alpha i) alpha, add-one i, power-suc alpha i) refl
+
+-- a further value is written in place i
+pub written_more : (xs : List ℕ) (F : ℕ → ℕ) (i value : ℕ) → i < length xs → ((k : ℕ) → k < i → get_or xs k 0 ≡ F k) → value ≡ F i
+    → (k : ℕ) → k < i + 1 → get_or (set xs i value) k 0 ≡ F k
+written_more xs F i value within before here =
+    below_more _ _
+    (λ k h. let ne : k ≢ i = omega arith in get_or-set_other xs i k value 0 ne ∙ before k h)
+    (get_or-set_same xs i value 0 within ∙ here)
+
+-- the sum of two bytes is their exclusive or
+pub bit_xor-plus : (a b : ℕ) → bit_xor a b ≡ plus a b
+unfolding plus
+bit_xor-plus a b = refl
+
+pub at_dropped : (xs ys : List ℕ) (i : ℕ) → drop i xs ≡ drop i ys → get_or xs i 0 ≡ get_or ys i 0
+at_dropped xs ys i e =
+    let at : (zs : List ℕ) → get_or (drop i zs) 0 0 ≡ get_or zs i 0 = λ zs. get_or-drop i zs 0 0 ∙ ap (λ n. get_or zs n 0) (add-zero i) in
+    sym (at xs) ∙ ap (λ zs. get_or zs 0 0) e ∙ at ys
+
+pub drop_more_same : (xs ys : List ℕ) (i : ℕ) → drop i xs ≡ drop i ys → drop (i + 1) xs ≡ drop (i + 1) ys
+drop_more_same xs ys i e = sym (drop-drop 1 i xs) ∙ ap (drop 1) e ∙ drop-drop 1 i ys
+
+-- a further error is added to a word
+pub added_more : (now before errors : List ℕ) (i : ℕ) → i < length now → i < length (sum_of before errors)
+    → take i now ≡ take i (sum_of before errors) → drop i now ≡ drop i before
+    → take (i + 1) (set now i (bit_xor (get_or now i 0) (get_or errors i 0))) ≡ take (i + 1) (sum_of before errors)
+added_more now before errors i within within_sum front left =
+    take_more_set now i _ within
+    ∙ rw (front, bit_xor-plus (get_or now i 0) (get_or errors i 0), at_dropped now before i left, ← at-sum_of before errors i) refl
+    ∙ sym (take_more (sum_of before errors) i 0 within_sum)
+
+pub left_more : (now before : List ℕ) (i value : ℕ) → drop i now ≡ drop i before → drop (i + 1) (set now i value) ≡ drop (i + 1) before
+left_more now before i value left = drop-set-lt (i + 1) now i value (omega arith) ∙ drop_more_same now before i left
+
+pub weight-append : (xs ys : List ℕ) → weight (xs ++ ys) ≡ weight xs + weight ys
+weight-append [] ys = sym (zero-add (weight ys))
+weight-append (zero ∷ xs) ys = weight-append xs ys
+weight-append (suc n ∷ xs) ys = omega (arith, weight-append xs ys)
+
+pub weight-le : (xs : List ℕ) → weight xs ≤ length xs
+weight-le [] = omega arith
+weight-le (zero ∷ xs) = omega (arith, weight-le xs)
+weight-le (suc n ∷ xs) = omega (arith, weight-le xs)
+
+pub weight_more : (xs : List ℕ) (i : ℕ) → i < length xs → weight (take (i + 1) xs) ≡ weight (take i xs) + weight (get_or xs i 0 ∷ [])
+weight_more xs i within = rw (take_more xs i 0 within) (weight-append (take i xs) (get_or xs i 0 ∷ []))
+
+-- lists that agree in more places than they have are the same
+pub same_from_take : (xs ys : List ℕ) (n : ℕ) → length xs ≤ n → length ys ≤ n → take n xs ≡ take n ys → xs ≡ ys
+same_from_take xs ys n xs_short ys_short e = sym (take_all n xs xs_short) ∙ e ∙ take_all n ys ys_short
+
+-- a further row is written in place i
+pub row_more : {X : Type 0} (xs : List X) (P : ℕ → X → Type 0) (i : ℕ) (row d : X) → i < length xs → ((k : ℕ) → k < i → P k (get_or xs k d)) → P i row
+    → (k : ℕ) → k < i + 1 → P k (get_or (set xs i row) k d)
+row_more xs P i row d within before here =
+    below_more _ _
+    (λ k h. let ne : k ≢ i = omega arith in subst (P k) (sym (get_or-set_other xs i k row d ne)) (before k h))
+    (subst (P i) (sym (get_or-set_same xs i row d within)) here)
+
+-- ---- errors are placed
+
+-- a value is added to the symbol at place s
+pub weighted_sum-set : (word : List ℕ) (s value i : ℕ) → s < length word
+    → weighted_sum (set word s (plus (get_or word s 0) value)) i ≡ plus (weighted_sum word i) (times value (power alpha ((length word - 1 - s) * i)))
+weighted_sum-set [] s value i within = absurd (omega (arith, within))
+weighted_sum-set (first ∷ word) zero value i within =
+    let here : suc (length word) - 1 - 0 ≡ length word = omega arith in
+    rw (
+      here,
+      plus-times first value (power alpha (length word * i)),
+      plus_assoc (times first (power alpha (length word * i))) (times value (power alpha (length word * i))) (weighted_sum word i),
+      plus_comm (times value (power alpha (length word * i))) (weighted_sum word i),
+    )
+    (sym (plus_assoc _ _ _))
+weighted_sum-set (first ∷ word) (suc s) value i within =
+    let here : suc (length word) - 1 - suc s ≡ length word - 1 - s = omega arith in
+    rw (here, length-set word s (plus (get_or word s 0) value), weighted_sum-set word s value i (omega (arith, within)))
+    (sym (plus_assoc _ _ _))
+
+pub IsRooted-set : (p word : List ℕ) (s value : ℕ) → s < length word → value_at p (power alpha (length word - 1 - s)) ≡ 0 → IsRooted p word
+    → IsRooted p (set word s value)
+IsRooted-set p [] s value within root rooted = tt
+IsRooted-set p (first ∷ word) zero value within root rooted =
+    let here : suc (length word) - 1 - 0 ≡ length word = omega arith in
+    ((λ ne. sym (ap (λ n. value_at p (power alpha n)) here) ∙ root), rooted.1)
+IsRooted-set p (first ∷ word) (suc s) value within root rooted =
+    let here : suc (length word) - 1 - suc s ≡ length word - 1 - s = omega arith in (
+      (λ ne. ap (λ n. value_at p (power alpha n)) (length-set word s value) ∙ rooted.0 ne),
+      IsRooted-set p word s value (omega (arith, within)) (sym (ap (λ n. value_at p (power alpha n)) here) ∙ root) rooted.1,
+    )
+
+pub moment-none : (ys : List ℕ) (i : ℕ) → moment ys [] i ≡ 0
+moment-none [] i = refl
+moment-none (y ∷ ys) i = refl
+
+pub moment-push : (ys xs : List ℕ) (x i : ℕ)
+    → moment ys (xs ++ x ∷ []) i ≡ plus (moment ys xs i) (times (get_or ys (length xs) 0) (power x i))
+moment-push [] xs x i = sym (rw (zero-times (power x i)) (plus-zero 0))
+moment-push (y ∷ ys) [] x i = rw (moment-none ys i, plus-zero (times y (power x i))) (sym (zero-plus (times y (power x i))))
+moment-push (y ∷ ys) (z ∷ xs) x i = rw (moment-push ys xs x i) (sym (plus_assoc _ _ _))
+
+pub moment_more : (ys exponents : List ℕ) (k i : ℕ) → k < length exponents
+    → moment ys (powers (take (k + 1) exponents)) i
+    ≡ plus (moment ys (powers (take k exponents)) i) (times (get_or ys k 0) (power alpha (get_or exponents k 0 * i)))
+moment_more ys exponents k i within =
+    let long : length (powers (take k exponents)) ≡ k =
+    length-map (take k exponents) (power alpha) ∙ length-take-le k exponents (omega (arith, within)) in
+    rw (take_more exponents k 0 within, map_push (power alpha) (take k exponents) (get_or exponents k 0), power-mul alpha (get_or exponents k 0) i)
+    (moment-push ys (powers (take k exponents)) (power alpha (get_or exponents k 0)) i
+    ∙ ap (λ n. plus (moment ys (powers (take k exponents)) i) (times (get_or ys n 0) (power (power alpha (get_or exponents k 0)) i))) long)
+
+pub HasRoots-at : (p exponents : List ℕ) (k : ℕ) → k < length exponents → HasRoots p (powers exponents) → value_at p (power alpha (get_or exponents k 0)) ≡ 0
+HasRoots-at p [] k within roots = absurd (omega (arith, within))
+HasRoots-at p (n ∷ exponents) zero within roots = roots.0
+HasRoots-at p (n ∷ exponents) (suc k) within roots = HasRoots-at p exponents k (omega (arith, within)) roots.1
+
+pub AreBelow-at : (m : ℕ) (exponents : List ℕ) (k : ℕ) → k < length exponents → AreBelow m exponents → get_or exponents k 0 < m
+AreBelow-at m [] k within below = absurd (omega (arith, within))
+AreBelow-at m (n ∷ exponents) zero within below = below.0
+AreBelow-at m (n ∷ exponents) (suc k) within below = AreBelow-at m exponents k (omega (arith, within)) below.1
+
+-- a place in the front of a list is written in the front
+pub take_written : (n : ℕ) (xs : List ℕ) (at value : ℕ) → at < n → take n (set xs at value) ≡ set (take n xs) at value
+take_written zero xs at value within = absurd (omega (arith, within))
+take_written (suc n) [] at value within = refl
+take_written (suc n) (x ∷ xs) zero value within = refl
+take_written (suc n) (x ∷ xs) (suc at) value within = ap (λ ys. x ∷ ys) (take_written n xs at value (omega (arith, within)))
+
+pub zeros_of_replicate : (n m : ℕ) → AreZero (take n (replicate m 0))
+zeros_of_replicate zero m = tt
+zeros_of_replicate (suc n) zero = tt
+zeros_of_replicate (suc n) (suc m) = (refl, zeros_of_replicate n m)
+
+pub zeros_replicate : (n : ℕ) → AreZero (replicate n 0)
+zeros_replicate zero = tt
+zeros_replicate (suc n) = (refl, zeros_replicate n)
+
+pub weighted_sum-AreZero : (word : List ℕ) (i : ℕ) → AreZero word → weighted_sum word i ≡ 0
+weighted_sum-AreZero word i zeros = weighted_sum-moment word i ∙ moment-AreZero word (points (length word)) i zeros
+
+pub IsRooted-AreZero : (p word : List ℕ) → AreZero word → IsRooted p word
+IsRooted-AreZero p [] zeros = tt
+IsRooted-AreZero p (symbol ∷ rest) zeros = ((λ ne. absurd (ne zeros.0)), IsRooted-AreZero p rest zeros.1)
+
+-- a further value is placed among the first n symbols
+pub placed_more : (errors ys exponents : List ℕ) (n k i at : ℕ) → at < n → n ≤ length errors → k < length exponents
+    → at + (get_or exponents k 0 + 1) ≡ n
+    → weighted_sum (take n errors) i ≡ moment ys (powers (take k exponents)) i
+    → weighted_sum (take n (set errors at (bit_xor (get_or errors at 0) (get_or ys k 0)))) i ≡ moment ys (powers (take (k + 1) exponents)) i
+placed_more errors ys exponents n k i at within enough within_exponents place sums =
+    let front : List ℕ = take n errors in
+    let long : length front ≡ n = length-take-le n errors enough in
+    let there : length front - 1 - at ≡ get_or exponents k 0 = omega (arith, place, long) in
+    rw (
+      bit_xor-plus (get_or errors at 0) (get_or ys k 0),
+      take_written n errors at (plus (get_or errors at 0) (get_or ys k 0)) within,
+      ← get_or-take n errors at 0 within,
+      weighted_sum-set front at (get_or ys k 0) i (omega (arith, within, long)),
+      there,
+      sums,
+    )
+    (sym (moment_more ys exponents k i within_exponents))
+
+pub rooted_more : (p errors exponents : List ℕ) (n k at value : ℕ) → at < n → n ≤ length errors → k < length exponents
+    → at + (get_or exponents k 0 + 1) ≡ n → HasRoots p (powers exponents) → IsRooted p (take n errors)
+    → IsRooted p (take n (set errors at value))
+rooted_more p errors exponents n k at value within enough within_exponents place roots rooted =
+    let front : List ℕ = take n errors in
+    let long : length front ≡ n = length-take-le n errors enough in
+    let there : length front - 1 - at ≡ get_or exponents k 0 = omega (arith, place, long) in
+    rw (take_written n errors at value within)
+    (IsRooted-set p front at value (omega (arith, within, long))
+    (ap (λ j. value_at p (power alpha j)) there ∙ HasRoots-at p exponents k within_exponents roots) rooted)
+
+-- ---- the equations
+
+-- what solves the equations has the sums as moments
+pub solved_moments : (exponents sums ys : List ℕ) (rows : List (List ℕ)) → length exponents ≤ length rows
+    → ((k : ℕ) → k < length exponents → IsEquation exponents (get_or sums k 0) k (get_or rows k []))
+    → Solves (length exponents) rows ys
+    → (i : ℕ) → i < length exponents → moment ys (powers exponents) i ≡ get_or sums i 0
+solved_moments exponents sums ys rows enough equations solves i h =
+    let r : ℕ = length exponents in
+    let equation : IsEquation exponents (get_or sums i 0) i (get_or rows i []) = equations i h in
+    let within : i < length (take r rows) = omega (arith, h, enough, length-take-le r rows enough) in
+    let at_i : dot (take r (get_or rows i [])) ys ≡ get_or (get_or rows i []) r 0 =
+    subst (λ row. dot (take r row) ys ≡ get_or row r 0) (get_or-take r rows i [] h) (solves i [] within) in
+    sym (dot-moment exponents ys i) ∙ ap (λ row. dot row ys) (sym equation.left) ∙ at_i ∙ equation.right
+
+-- distinct points make the equations regular
+pub not_singular : (exponents sums : List ℕ) (rows : List (List ℕ)) → length exponents ≤ length rows → AreDistinct (powers exponents)
+    → ((k : ℕ) → k < length exponents → IsEquation exponents (get_or sums k 0) k (get_or rows k []))
+    → IsSingular (length exponents) rows → ⊥
+not_singular exponents sums rows enough distinct equations singular =
+    let r : ℕ = length exponents in
+    let v : List ℕ = singular.vector in
+    let moments : (i : ℕ) → i < r → moment v (powers exponents) i ≡ 0 = λ i h.
+    let within_taken : i < length (take r rows) = omega (arith, h, enough, length-take-le r rows enough) in
+    let within : i < length (square r rows) = omega (arith, within_taken, length-map (take r rows) (take {A = ℕ} r)) in
+    let at_i : dot (take r (get_or rows i [])) v ≡ 0 =
+    subst (λ row. dot (take r row) v ≡ 0) (get_or-take r rows i [] h)
+    (subst (λ row. dot row v ≡ 0) (get_or-map (take r) (take r rows) i [] [] within_taken) (singular.annihilated i [] within)) in
+    sym (dot-moment exponents v i) ∙ ap (λ row. dot row v) (sym (equations i h).left) ∙ at_i in
+    let zeros : AreZero v =
+    vanishing r v (powers exponents) (omega (arith, singular.is_vector.full, length-map exponents (power alpha)))
+    (elements_of v singular.is_vector.elements) (Elements-powers exponents) distinct
+    (omega (arith, weight-le v, singular.is_vector.full)) moments in
+    singular.nonzero.1 (at_zeros v singular.nonzero.0 zeros)
+
+-- ---- the values of a polynomial
+
+-- Horner's step, from the highest coefficient down
+pub evaluate_more : (p : List ℕ) (x i value : ℕ) → i < length p → value ≡ value_at (drop (i + 1) p) x
+    → plus (times value x) (get_or p i 0) ≡ value_at (drop i p) x
+evaluate_more p x i value within here =
+    rw (here, drop_more p i 0 within, times_comm (value_at (drop (i + 1) p) x) x) (plus_comm _ _)
+
+-- ---- the roots
+
+pub roots_few : (t n : ℕ) (p : List ℕ) → n ≤ 255 → IsVector 17 (t + 1) p → IsNonzero p → length (root_exponents p n) ≤ t
+roots_few t n p within vector nonzero =
+    let roots : AreRootExponents p n (root_exponents p n) = root_exponents_hold p n within in
+    omega (
+      arith,
+      length-map (root_exponents p n) (power alpha),
+      few_roots t nonzero.0 p (powers (root_exponents p n)) (elements_of p vector.elements)
+          (λ k above. vector.zeros k (omega (arith, above))) nonzero.1 (Elements-powers (root_exponents p n)) roots.distinct roots.roots,
+    )
+
+pub root_exponents-root : (p : List ℕ) (n : ℕ) → value_at p (power alpha n) ≡ 0 → root_exponents p (n + 1) ≡ root_exponents p n ++ n ∷ []
+root_exponents-root p n root = rw (add-one n, root) refl
+
+pub root_exponents-none : (p : List ℕ) (n : ℕ) → value_at p (power alpha n) ≢ 0 → root_exponents p (n + 1) ≡ root_exponents p n
+root_exponents-none p n none = rw (add-one n, ne_eqb (value_at p (power alpha n)) 0 none) (append-nil (root_exponents p n))
+
+-- there is room for a further root
+pub root_room : (t n count : ℕ) (p : List ℕ) → n + 1 ≤ 255 → t ≤ 16 → IsVector 17 (t + 1) p → IsNonzero p → value_at p (power alpha n) ≡ 0
+    → count ≡ length (root_exponents p n) → count < 16
+root_room t n count p within small vector nonzero root counted =
+    let more : length (root_exponents p (n + 1)) ≡ count + 1 =
+    ap (λ ks. length ks) (root_exponents-root p n root) ∙ length_push (root_exponents p n) n ∙ ap (λ k. k + 1) (sym counted) in
+    omega (arith, more, small, roots_few t (n + 1) p within vector nonzero)
+
+-- a further root is kept in place count
+pub root_kept : (p exponents : List ℕ) (n count : ℕ) → count < length exponents → value_at p (power alpha n) ≡ 0
+    → take count exponents ≡ root_exponents p n
+    → take (count + 1) (set exponents count n) ≡ root_exponents p (n + 1)
+root_kept p exponents n count within root found =
+    take_more_set exponents count n within ∙ ap (λ ks. ks ++ n ∷ []) found ∙ sym (root_exponents-root p n root)
+
+-- ---- rows of numbers
+
+pub matrix-set : (rows : List (List Gf)) (i : ℕ) (row : List Gf) → matrix (set rows i row) ≡ set (matrix rows) i (values row)
+matrix-set rows i row = map-set values rows i row
+
+pub values-set : (elements : List Gf) (i : ℕ) (element : Gf) → values (set elements i element) ≡ set (values elements) i element.value
+values-set elements i element = map-set (λ g. g.value) elements i element
+
+pub values-take : (n : ℕ) (elements : List Gf) → values (take n elements) ≡ take n (values elements)
+values-take n elements = sym (take-map (λ g. g.value) n elements)
+
+pub values-drop : (n : ℕ) (elements : List Gf) → values (drop n elements) ≡ drop n (values elements)
+values-drop n elements = sym (drop-map (λ g. g.value) n elements)
+
+pub at-values : (elements : List Gf) (i : ℕ) (d : Gf) → i < length elements → get_or (values elements) i 0 ≡ (get_or elements i d).value
+at-values elements i d within = get_or-map (λ g. g.value) elements i d 0 within
+
+pub length-values : (elements : List Gf) → length (values elements) ≡ length elements
+length-values elements = length-map elements (λ g. g.value)
+
+pub length-matrix : (rows : List (List Gf)) → length (matrix rows) ≡ length rows
+length-matrix rows = length-map rows values

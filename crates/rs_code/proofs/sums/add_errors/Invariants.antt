@@ -1,0 +1,11 @@
+use Rattle.std.proofs.Common.{◌≡◌, take, drop}
+use Rattle.rs_code.specs.Polynomial.{sum_of}
+use Rattle.rs_code.specs.Errors.{weight}
+use Rattle.rs_code.proofs.sums.add_errors.Given as goal
+
+abbrev pub invariant-loop-i : goal.invariant-loop-i
+invariant-loop-i l = record {
+  added : take l.i l.word ≡ take l.i (sum_of l.initial.word l.errors);
+  left : drop l.i l.word ≡ drop l.i l.initial.word;
+  counted : l.count ≡ weight (take l.i l.errors);
+}

@@ -1,0 +1,5 @@
+pub use Rattle.gf256.specs.Field
+pub mod Word
+pub mod Polynomial
+pub mod Laws
+pub mod Errors
