@@ -1,0 +1,3 @@
+pub mod Data
+pub use Rattle.code_spec.specs.Code
+pub use Rattle.code_spec.specs.Output

@@ -1,0 +1,7 @@
+//! Codes: a constraint, a rate, a window and a table of rows.
+#![tactic(auto)]
+
+mod code;
+
+pub use code::Code;
+pub use code_spec::CodeRow;

@@ -1,0 +1,5 @@
+pub mod Blocks
+pub mod Composed
+pub mod Numbers
+pub mod Readers
+pub mod Steps
