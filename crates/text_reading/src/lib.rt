@@ -99,3 +99,6 @@ pub fn blocks_are_read()
     ensures { (alphabet q : ℕ) → 2 ≤ alphabet
         → Reads (block_at alphabet q) (λ value. map (λ symbol. 48 + symbol) (symbols_of alphabet q value)) (λ value. value < alphabet ^ q) }
 {}
+
+#[cfg(test)]
+mod tests;
