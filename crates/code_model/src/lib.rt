@@ -5,3 +5,6 @@ mod code;
 
 pub use code::Code;
 pub use code_spec::CodeRow;
+
+#[cfg(test)]
+mod tests;
