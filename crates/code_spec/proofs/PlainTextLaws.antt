@@ -1,10 +1,10 @@
 -- How long plain text is.
-use Rattle.std.proofs.Common.{◌≡◌, ℕ, ◌+◌, ◌*◌, List, [], ◌∷◌, ◌++◌, length, map, replicate, refl, sym, ap, ◌∙◌, arith}
+use Rattle.std.proofs.Common.{◌≡◌, ℕ, ◌+◌, ◌*◌, List, [], ◌∷◌, ◌++◌, length, map, replicate, ap, ◌∙◌, arith}
 use Rattle.std.proofs.lemmas.List.{length-append, length-map, length-replicate}
 use Rattle.std.proofs.lemmas.List.FromFn.{length-map-range_with_len}
 use Rattle.symbol_base.specs.Bits.{bits, word_at}
 use Rattle.code_spec.specs.Code.{CodeData}
-use Rattle.code_spec.specs.Output.{output, flat}
+use Rattle.code_spec.specs.Output.{output}
 use Rattle.code_spec.specs.PlainText.{word_count, file_words, data_words, plain_symbols, plain_text, plain_length}
 use Rattle.code_spec.proofs.OutputLaws.{length-flat, length-output_from}
 

@@ -1,5 +1,5 @@
 -- A code, as plain data: its constraint, its rate p : q, its window, and its table.
-use Rattle.std.specs.Prelude.{◌≡◌, ℕ, ◌+◌, ◌<◌, ◌≤◌, ◌^◌, List, length, All}
+use Rattle.std.specs.Prelude.{◌≡◌, ℕ, ◌<◌, ◌≤◌, ◌^◌, List, length, All}
 use Rattle.constraint_spec.specs.Constraint.{ConstraintData}
 use Rattle.constraint_spec.specs.Ranges.{IsConstraint}
 use Rattle.code_spec.specs.declared.CodeRow.{CodeRow}

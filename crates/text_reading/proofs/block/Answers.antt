@@ -1,5 +1,5 @@
 use Rattle.std.proofs.Common.{arith}
-use Rattle.text_reading.proofs.Blocks.{reads_more, room_for_one, read_whole}
+use Rattle.text_reading.proofs.Blocks.{reads_more, room_for_one}
 use Rattle.text_reading.proofs.block.Goals as goal
 
 pub overflow_mul-value : goal.overflow_mul-value
