@@ -1,0 +1,13 @@
+//! The commands of the program, from its words to its files.
+#![tactic(auto)]
+
+mod encode;
+mod first_form;
+mod plain_text;
+mod status;
+#[cfg(test)]
+mod tests;
+mod top;
+
+pub use status::{CodeFault, Status};
+pub use top::run;
