@@ -58,9 +58,9 @@ more_words p file j = sym (map-range_with_len_more (λ j. word_at (bits file) (p
 -- lead-in, file and lead-out, one behind the other from state 0, are the whole text's symbols
 pub whole_text : (c : CodeData) (file : List ℕ) (start past ahead : ℕ) (empty lead_in words new : List ℕ) (first second third : ℕ) → start ≡ 0 → empty ≡ [] → past ≡ c.past → ahead ≡ c.ahead
     → Writes c start (replicate past 0) empty lead_in first → Writes c first (file_words c.p file) lead_in words second → Writes c second (replicate ahead 0) words new third → new ≡ plain_symbols c file
-whole_text c file start past ahead empty lead_in words new first second third at_0 none past_is ahead_is w1 w2 w3 =
-    let front : Writes c start (replicate past 0 ++ file_words c.p file) empty words second = writes-append c start (replicate past 0) (file_words c.p file) empty lead_in words first second w1 w2 in
-    let all : Writes c start ((replicate past 0 ++ file_words c.p file) ++ replicate ahead 0) empty new third = writes-append c start (replicate past 0 ++ file_words c.p file) (replicate ahead 0) empty words new second third front w3 in
+whole_text c file start past ahead empty lead_in words new first second third at_0 none past_is ahead_is lead_written file_written tail_written =
+    let front : Writes c start (replicate past 0 ++ file_words c.p file) empty words second = writes-append c start (replicate past 0) (file_words c.p file) empty lead_in words first second lead_written file_written in
+    let all : Writes c start ((replicate past 0 ++ file_words c.p file) ++ replicate ahead 0) empty new third = writes-append c start (replicate past 0 ++ file_words c.p file) (replicate ahead 0) empty words new second third front tail_written in
     all.symbols
     ∙ ap (λ (e : List ℕ). e ++ flat c (output c start ((replicate past 0 ++ file_words c.p file) ++ replicate ahead 0))) none
     ∙ ap (λ (s : ℕ). flat c (output c s ((replicate past 0 ++ file_words c.p file) ++ replicate ahead 0))) at_0
