@@ -14,7 +14,7 @@ use Rattle.gf256.proofs.Lists.{rewritten, rewritten_more, rewritten-all, get_or-
 pub length-scaled : (factor : ℕ) (xs : List ℕ) → length (scaled factor xs) ≡ length xs
 length-scaled factor xs = length-map xs (λ x. times factor x)
 
--- an element not yet rewritten
+-- an element behind the rewritten ones
 value_not_yet : (now old : List Gf) (new : List ℕ) (i : ℕ) (d : Gf) → length now ≡ length old → length new ≡ length old → i < length old → values now ≡ rewritten i new (values old) → (get_or now i d).value ≡ get_or (values old) i 0
 value_not_yet now old new i d same same' within so_far =
     let old_length = length-values old in

@@ -51,6 +51,12 @@ items_again item text P top reads (suc count) place (x ∷ items) rest inside lo
     let others = items_again item text P top reads count (place + 1) items rest (omega arith) (omega arith) holds.1 in
     rw (append_assoc, (reads place (omega arith)).again x (texts_from text (place + 1) items ++ rest) holds.0, others) refl
 
+here_inside : (place count top : ℕ) → place + suc count ≤ top → place < top
+here_inside place count top inside = omega arith
+
+others_inside : (place count top : ℕ) → place + suc count ≤ top → (place + 1) + count ≤ top
+others_inside place count top inside = omega arith
+
 items_takes : {A : Type 0} (item : ℕ → List ℕ → Option (A × List ℕ)) (text : ℕ → A → List ℕ) (P : ℕ → A → Type 0) → (top : ℕ) → ((place : ℕ) → place < top → Reads (item place) (text place) (P place))
     → (count place : ℕ) (bytes : List ℕ) (items : List A) (rest : List ℕ) → place + count ≤ top → items_from item place count bytes ≡ Some (items, rest)
     → (bytes ≡ texts_from text place items ++ rest) × ((length items ≡ count) × HoldsFrom P place items)
@@ -64,11 +70,11 @@ items_takes {A} item text P top reads (suc count) place bytes items rest inside 
     let two : (y : List A × List ℕ) × (items_from item (place + 1) count x.1 ≡ Some y) × (Some (x.0 ∷ y.0, y.1) ≡ Some (items, rest)) =
     bind_some (items_from item (place + 1) count x.1) (λ others. Some (x.0 ∷ others.0, others.1)) (items, rest) one.2 in
     let y : List A × List ℕ = two.0 in
-    let first = (reads place (omega arith)).takes bytes x.0 x.1 one.1 in
-    let others = items_takes item text P top reads count (place + 1) x.1 y.0 y.1 (omega arith) two.1 in
+    let first = (reads place (here_inside place count top inside)).takes bytes x.0 x.1 one.1 in
+    let others = items_takes item text P top reads count (place + 1) x.1 y.0 y.1 (others_inside place count top inside) two.1 in
     let whole : bytes ≡ text place x.0 ++ texts_from text (place + 1) y.0 ++ y.1 =
     first.0 ∙ ap (λ (after : List ℕ). text place x.0 ++ after) others.0 ∙ sym (append_assoc (text place x.0) (texts_from text (place + 1) y.0) y.1) in
-    let long : length (x.0 ∷ y.0) ≡ suc count = omega (arith, others.1.0) in
+    let long : length (x.0 ∷ y.0) ≡ suc count = ap suc others.1.0 in
     subst (λ (p : List A × List ℕ). (bytes ≡ texts_from text place p.0 ++ p.1) × ((length p.0 ≡ suc count) × HoldsFrom P place p.0)) (some_is (x.0 ∷ y.0, y.1) (items, rest) two.2)
     (whole, (long, (first.1, others.1.1)))
 

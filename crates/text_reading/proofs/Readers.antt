@@ -62,7 +62,7 @@ number_at_takes bytes n rest e =
     let behind : drop run bytes ≡ rest = ap (λ (x : ℕ × List ℕ). x.1) pair in
     let small : read.0 < 10 ^ 18 = spelled.1 in
     let text : bytes ≡ decimal n ++ rest = sym (take-append-drop run bytes) ∙ rw (spelled.0, number, behind) refl in
-    (text, omega (arith, small, number))
+    (text, subst (λ (value : ℕ). value < 10 ^ 18) number small)
 
 -- two parts, one behind the other
 pub joined : (bytes first text second after behind rest : List ℕ) → bytes ≡ first ++ after → after ≡ second ++ behind → first ≡ text → behind ≡ rest → bytes ≡ text ++ second ++ rest
@@ -135,6 +135,12 @@ block_at-append alphabet q value rest two below =
     let number : number_of alphabet word ≡ value = number_of-symbols_of alphabet q value (omega arith) ∙ mod-eq_of_lt below in
     rw (enough, front, behind, are_digits, symbols_of_digits word, number) refl
 
+length-symbols : (q : ℕ) (bytes : List ℕ) → q ≤ length bytes → length (map (λ byte. byte - 48) (take q bytes)) ≡ q
+length-symbols q bytes enough = omega (arith, length-map (take q bytes) (λ byte. byte - 48), length-take q bytes)
+
+positive : (alphabet : ℕ) → 2 ≤ alphabet → 1 ≤ alphabet
+positive alphabet two = omega arith
+
 block_at_takes : (alphabet q : ℕ) (bytes : List ℕ) (value : ℕ) (rest : List ℕ) → 2 ≤ alphabet → block_at alphabet q bytes ≡ Some (value, rest)
     → (bytes ≡ map (λ symbol. 48 + symbol) (symbols_of alphabet q value) ++ rest) × (value < alphabet ^ q)
 unfolding block_at
@@ -146,12 +152,12 @@ block_at_takes alphabet q bytes value rest two e =
     let tests = and_parts (leb q (length bytes)) (list_all (is_symbol_digit alphabet) front) read.0 in
     let enough : q ≤ length bytes = leb-true q (length bytes) tests.0 in
     let again = digits_again alphabet front tests.1 in
-    let q_long : length word ≡ q = omega (arith, length-map front (λ byte. byte - 48), length-take q bytes) in
+    let q_long : length word ≡ q = length-symbols q bytes enough in
     let over : IsOver alphabet word = All-from_recursion (λ symbol. symbol < alphabet) word again.1 in
     let number : number_of alphabet word ≡ value = ap (λ (x : ℕ × List ℕ). x.0) read.1 in
     let behind : drop q bytes ≡ rest = ap (λ (x : ℕ × List ℕ). x.1) read.1 in
     let spelled : symbols_of alphabet q value ≡ word =
-    sym (subst (λ n. symbols_of alphabet n (number_of alphabet word) ≡ symbols_of alphabet q value) (sym q_long) (ap (λ v. symbols_of alphabet q v) number)) ∙ symbols_of-number_of alphabet word (omega arith) over in
+    sym (subst (λ n. symbols_of alphabet n (number_of alphabet word) ≡ symbols_of alphabet q value) (sym q_long) (ap (λ v. symbols_of alphabet q v) number)) ∙ symbols_of-number_of alphabet word (positive alphabet two) over in
     let below : number_of alphabet word < alphabet ^ q = subst (λ n. number_of alphabet word < alphabet ^ n) q_long (number_of-lt alphabet word over) in
     (sym (take-append-drop q bytes) ∙ rw (behind, spelled, again.0) refl, subst (λ v. v < alphabet ^ q) number below)
 

@@ -1,5 +1,5 @@
 -- No two causes hold at once, and none where the text is written: so each status comes exactly where its cause holds.
-use Rattle.std.proofs.Common.{◌≡◌, ℕ, ◌<◌, ◌≤◌, cond, ltb, List, length, Option, Some, None, refl, sym, ap, ◌∙◌, subst, inl, inr}
+use Rattle.std.proofs.Common.{◌≡◌, ℕ, ◌<◌, ◌≤◌, cond, ltb, List, length, Option, Some, None, refl, sym, ◌∙◌, subst, inl, inr}
 use Rattle.std.specs.Prelude.{◌⊎◌, IfSome}
 use Rattle.std.proofs.lemmas.Bool.{lt-ltb, le-ltb}
 use Rattle.shelf_io.specs.Shelf.{Files}
@@ -16,7 +16,7 @@ use Rattle.workbench.specs.Words.{EncodeWords}
 use Rattle.workbench.specs.Counts.{CountsStatus}
 use Rattle.workbench.specs.Reading.{first_form_at}
 use Rattle.workbench.specs.Encode.{HasCode, HasSource, HasBoth, IsReady, IsGood, IsMissing, IsTooLong, IsNotFirstForm, IsNotWord, Refuses, Encodes, Ends, EndsOver, AnswersRefusal, Completes}
-use Rattle.workbench.proofs.FirstFormLaws.{first_form_again, first_form_takes}
+use Rattle.workbench.proofs.FirstFormLaws.{some_one, one_code, first_form_again, first_form_takes}
 use Rattle.workbench.proofs.EncodeEnds.{some_and}
 
 -- the refusal up to the test of the digits, or none
@@ -38,9 +38,6 @@ key files words = key_code (files words.source) (files words.code)
 none_of : {A : Type 0} (o : Option A) → ((x : A) → o ≡ Some x → ⊥) → o ≡ None
 none_of None h = refl
 none_of (Some x) h = absurd (h x refl)
-
-some_one : {A : Type 0} (x y : A) (o : Option A) → o ≡ Some x → o ≡ Some y → x ≡ y
-some_one x y o e f = cc
 
 not_both : {A : Type 0} (x : A) (o : Option A) → o ≡ Some x → o ≡ None → ⊥
 not_both x o e f = cc
@@ -84,9 +81,8 @@ key-not_first_form files words cause =
 
 same_code : (files : Files) (words : EncodeWords) (c d : CodeData) → HasCode files words c → HasCode files words d → c ≡ d
 same_code files words c d one other =
-    let bytes : one.bytes ≡ other.bytes = some_one one.bytes other.bytes (files words.code) one.found other.found in
-    let read : first_form_at one.bytes ≡ Some d = ap (λ (b : List ℕ). first_form_at b) bytes ∙ first_form_again other.bytes d other.form in
-    some_one c d (first_form_at one.bytes) (first_form_again one.bytes c one.form) read
+    let bytes : other.bytes ≡ one.bytes = some_one other.bytes one.bytes (files words.code) other.found one.found in
+    one_code one.bytes c d one.form (subst (λ (b : List ℕ). IsFirstForm b d) bytes other.form)
 
 same_file : (files : Files) (words : EncodeWords) (file other : List ℕ) → HasSource files words file → HasSource files words other → file ≡ other
 same_file files words file other one two = some_one file other (files words.source) one.found two.found

@@ -54,11 +54,14 @@ no_dash k rest small =
     let digit = first_is_digit k rest small in
     dash_is_no_digit (sym (ap is_ascii_digit first) ∙ digit))
 
+k_reads : (d : ℕ) → Reads (field_at 10 d 100) (field_text 10) (IsRange d 100)
+k_reads d = field_reads 10 d 100 refl (omega arith)
+
 limit_again : (d : ℕ) (k : Option ℕ) (rest : List ℕ) → IsLimit d k → limit_at d (limit_text k ++ rest) ≡ Some (k, rest)
 unfolding limit_at
 limit_again d None rest is = rw (after_text-append (45 ∷ 10 ∷ []) rest) refl
 limit_again d (Some k) rest is =
-    let number = (field_reads 10 d 100 refl (omega arith)).again k rest is in
+    let number = (k_reads d).again k rest is in
     rw (no_dash k rest (omega arith), number) refl
 
 dash_or_number_takes : (d : ℕ) (bytes : List ℕ) (dash : Option (List ℕ)) (k : Option ℕ) (rest : List ℕ) → ((after : List ℕ) → dash ≡ Some after → bytes ≡ 45 ∷ 10 ∷ after)
@@ -69,7 +72,7 @@ dash_or_number_takes d bytes None k rest dash e =
     let one : (x : ℕ × List ℕ) × (field_at 10 d 100 bytes ≡ Some x) × (Some (Some x.0, x.1) ≡ Some (k, rest)) =
     bind_some (field_at 10 d 100 bytes) (λ x. Some (Some x.0, x.1)) (k, rest) e in
     let x : ℕ × List ℕ = one.0 in
-    let number = (field_reads 10 d 100 refl (omega arith)).takes bytes x.0 x.1 one.1 in
+    let number = (k_reads d).takes bytes x.0 x.1 one.1 in
     subst (λ (p : Option ℕ × List ℕ). (bytes ≡ limit_text p.0 ++ p.1) × IsLimit d p.0) (some_is (Some x.0, x.1) (k, rest) one.2) (number.0, number.1)
 
 limit_takes : (d : ℕ) (bytes : List ℕ) (k : Option ℕ) (rest : List ℕ) → limit_at d bytes ≡ Some (k, rest) → (bytes ≡ limit_text k ++ rest) × IsLimit d k

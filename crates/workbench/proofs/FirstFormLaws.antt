@@ -116,6 +116,13 @@ first_form_again bytes c form =
     form.text.spelled ∙ ap (λ (d : CodeData). code_text d) parts.0 ∙ text-code_from runs sizes c.rows refl in
     ap (λ (t : List ℕ). first_form_at t) spelled ∙ again_from runs sizes c.rows parts.1 ∙ ap (λ (d : CodeData). Some d) (sym parts.0)
 
+pub some_one : {A : Type 0} (x y : A) (o : Option A) → o ≡ Some x → o ≡ Some y → x ≡ y
+some_one x y o e f = cc
+
+-- bytes are the text of one code at most
+pub one_code : (bytes : List ℕ) (c d : CodeData) → IsFirstForm bytes c → IsFirstForm bytes d → c ≡ d
+one_code bytes c d one other = some_one c d (first_form_at bytes) (first_form_again bytes c one) (first_form_again bytes d other)
+
 -- ---- what is read is spelled so
 
 fits : (n : ℕ) → n ≤ 512 → n < 10 ^ 18
@@ -128,39 +135,48 @@ takes_from runs sizes rows bytes parts spelled = record {
   no_graph = refl;
 }
 
--- what is read is spelled so
-pub first_form_takes : (bytes : List ℕ) (c : CodeData) → first_form_at bytes ≡ Some c → IsFirstForm bytes c
-unfolding first_form_at
-first_form_takes bytes c e =
-    let one : (x : (ℕ × Option ℕ) × List ℕ) × (runs_at bytes ≡ Some x)
-    × ((sizes_at x.1 >>= λ sizes. table_at sizes.0.0.0 sizes.0.0.1 sizes.0.1.1 sizes.1 >>= λ table. cond (eqb (length table.1) 0) (Some (code_from x.0 sizes.0 table.0)) None) ≡ Some c) =
-    bind_some (runs_at bytes) (λ x. sizes_at x.1 >>= λ sizes. table_at sizes.0.0.0 sizes.0.0.1 sizes.0.1.1 sizes.1 >>= λ table. cond (eqb (length table.1) 0) (Some (code_from x.0 sizes.0 table.0)) None) c e in
-    let runs : ℕ × Option ℕ = one.0.0 in
-    let two : (x : Sizes × List ℕ) × (sizes_at one.0.1 ≡ Some x) × ((table_at x.0.0.0 x.0.0.1 x.0.1.1 x.1 >>= λ table. cond (eqb (length table.1) 0) (Some (code_from runs x.0 table.0)) None) ≡ Some c) =
-    bind_some (sizes_at one.0.1) (λ x. table_at x.0.0.0 x.0.0.1 x.0.1.1 x.1 >>= λ table. cond (eqb (length table.1) 0) (Some (code_from runs x.0 table.0)) None) c one.2 in
-    let sizes : Sizes = two.0.0 in
-    let three : (x : List (List CodeRow) × List ℕ) × (table_at sizes.0.0 sizes.0.1 sizes.1.1 two.0.1 ≡ Some x) × (cond (eqb (length x.1) 0) (Some (code_from runs sizes x.0)) None ≡ Some c) =
-    bind_some (table_at sizes.0.0 sizes.0.1 sizes.1.1 two.0.1) (λ x. cond (eqb (length x.1) 0) (Some (code_from runs sizes x.0)) None) c two.2 in
-    let rows : List (List CodeRow) = three.0.0 in
-    let ended : (eqb (length three.0.1) 0 ≡ true) × (code_from runs sizes rows ≡ c) = guard_some (eqb (length three.0.1) 0) (code_from runs sizes rows) c three.2 in
-    let head : (bytes ≡ runs_text runs ++ one.0.1) × IsRuns runs = runs_read.takes bytes runs one.0.1 one.1 in
-    let middle : (one.0.1 ≡ sizes_text sizes ++ two.0.1) × AreSizes sizes = sizes_read.takes one.0.1 sizes two.0.1 two.1 in
-    let eight : sizes.0.0 ≤ 8 = middle.1.0.0.1 in
-    let few : sizes.1.1 < 10 ^ 18 = fits sizes.1.1 middle.1.1.1.1 in
-    let table : (two.0.1 ≡ table_text sizes.0.1 rows ++ three.0.1) × IsTable sizes.0.0 sizes.0.1 sizes.1.1 rows = (table_reads sizes.0.0 sizes.0.1 sizes.1.1 eight few).takes two.0.1 rows three.0.1 three.1 in
-    let nothing_behind : three.0.1 ≡ [] = nil_from_length three.0.1 (eqb-true (length three.0.1) 0 ended.0) in
-    let table_is : two.0.1 ≡ table_text sizes.0.1 rows = table.0 ∙ ap (λ (t : List ℕ). table_text sizes.0.1 rows ++ t) nothing_behind ∙ append-nil (table_text sizes.0.1 rows) in
-    let spelled : bytes ≡ runs_text runs ++ (sizes_text sizes ++ table_text sizes.0.1 rows) =
-    head.0 ∙ ap (λ (t : List ℕ). runs_text runs ++ t) (middle.0 ∙ ap (λ (t : List ℕ). sizes_text sizes ++ t) table_is) in
-    subst (λ (d : CodeData). IsFirstForm bytes d) ended.1
-    (takes_from runs sizes rows bytes (record { runs_kept = head.1; sizes_kept = middle.1; table_kept = table.1 }) spelled)
+-- what the readers of the parts read is what they keep and spell
+parts_read : (bytes behind_runs behind_sizes rest : List ℕ) (runs : ℕ × Option ℕ) (sizes : Sizes) (rows : List (List CodeRow)) → runs_at bytes ≡ Some (runs, behind_runs) → sizes_at behind_runs ≡ Some (sizes, behind_sizes)
+    → table_at sizes.0.0 sizes.0.1 sizes.1.1 behind_sizes ≡ Some (rows, rest)
+    → AreParts runs sizes rows × (bytes ≡ runs_text runs ++ (sizes_text sizes ++ (table_text sizes.0.1 rows ++ rest)))
+parts_read bytes behind_runs behind_sizes rest runs sizes rows head middle table =
+    let front : (bytes ≡ runs_text runs ++ behind_runs) × IsRuns runs = runs_read.takes bytes runs behind_runs head in
+    let next : (behind_runs ≡ sizes_text sizes ++ behind_sizes) × AreSizes sizes = sizes_read.takes behind_runs sizes behind_sizes middle in
+    let few : sizes.1.1 < 10 ^ 18 = fits sizes.1.1 next.1.1.1.1 in
+    let last : (behind_sizes ≡ table_text sizes.0.1 rows ++ rest) × IsTable sizes.0.0 sizes.0.1 sizes.1.1 rows =
+    (table_reads sizes.0.0 sizes.0.1 sizes.1.1 next.1.0.0.1 few).takes behind_sizes rows rest table in
+    (record { runs_kept = front.1; sizes_kept = next.1; table_kept = last.1 }, front.0 ∙ rw (next.0, last.0) refl)
 
 -- what the readers of the parts read is a code
 pub read_is_code : (bytes behind_runs behind_sizes rest : List ℕ) (runs : ℕ × Option ℕ) (sizes : Sizes) (rows : List (List CodeRow)) → runs_at bytes ≡ Some (runs, behind_runs) → sizes_at behind_runs ≡ Some (sizes, behind_sizes)
     → table_at sizes.0.0 sizes.0.1 sizes.1.1 behind_sizes ≡ Some (rows, rest) → IsCode (code_from runs sizes rows)
 read_is_code bytes behind_runs behind_sizes rest runs sizes rows head middle table =
-    let runs_kept = (runs_read.takes bytes runs behind_runs head).1 in
-    let sizes_kept = (sizes_read.takes behind_runs sizes behind_sizes middle).1 in
-    let few : sizes.1.1 < 10 ^ 18 = fits sizes.1.1 sizes_kept.1.1.1 in
-    let table_kept = ((table_reads sizes.0.0 sizes.0.1 sizes.1.1 sizes_kept.0.0.1 few).takes behind_sizes rows rest table).1 in
-    parts_are_code runs sizes rows (record { runs_kept = runs_kept; sizes_kept = sizes_kept; table_kept = table_kept })
+    parts_are_code runs sizes rows (parts_read bytes behind_runs behind_sizes rest runs sizes rows head middle table).0
+
+-- nothing behind the table: the whole is spelled so
+whole_taken : (bytes behind_runs behind_sizes rest : List ℕ) (runs : ℕ × Option ℕ) (sizes : Sizes) (rows : List (List CodeRow)) → runs_at bytes ≡ Some (runs, behind_runs) → sizes_at behind_runs ≡ Some (sizes, behind_sizes)
+    → table_at sizes.0.0 sizes.0.1 sizes.1.1 behind_sizes ≡ Some (rows, rest) → rest ≡ [] → IsFirstForm bytes (code_from runs sizes rows)
+whole_taken bytes behind_runs behind_sizes rest runs sizes rows head middle table ended =
+    let read = parts_read bytes behind_runs behind_sizes rest runs sizes rows head middle table in
+    let table_is : table_text sizes.0.1 rows ++ rest ≡ table_text sizes.0.1 rows = ap (λ (t : List ℕ). table_text sizes.0.1 rows ++ t) ended ∙ append-nil (table_text sizes.0.1 rows) in
+    takes_from runs sizes rows bytes read.0 (read.1 ∙ ap (λ (t : List ℕ). runs_text runs ++ (sizes_text sizes ++ t)) table_is)
+
+-- the readers behind the runs
+table_part : ℕ × Option ℕ → Sizes → List ℕ → Option CodeData
+table_part runs sizes bytes = table_at sizes.0.0 sizes.0.1 sizes.1.1 bytes >>= λ table. cond (eqb (length table.1) 0) (Some (code_from runs sizes table.0)) None
+
+sizes_part : ℕ × Option ℕ → List ℕ → Option CodeData
+sizes_part runs bytes = sizes_at bytes >>= λ sizes. table_part runs sizes.0 sizes.1
+
+-- what is read is spelled so
+pub first_form_takes : (bytes : List ℕ) (c : CodeData) → first_form_at bytes ≡ Some c → IsFirstForm bytes c
+unfolding first_form_at table_part sizes_part
+first_form_takes bytes c e =
+    let one : (x : (ℕ × Option ℕ) × List ℕ) × (runs_at bytes ≡ Some x) × (sizes_part x.0 x.1 ≡ Some c) = bind_some (runs_at bytes) (λ x. sizes_part x.0 x.1) c e in
+    let two : (x : Sizes × List ℕ) × (sizes_at one.0.1 ≡ Some x) × (table_part one.0.0 x.0 x.1 ≡ Some c) = bind_some (sizes_at one.0.1) (λ x. table_part one.0.0 x.0 x.1) c one.2 in
+    let three : (x : List (List CodeRow) × List ℕ) × (table_at two.0.0.0.0 two.0.0.0.1 two.0.0.1.1 two.0.1 ≡ Some x) × (cond (eqb (length x.1) 0) (Some (code_from one.0.0 two.0.0 x.0)) None ≡ Some c) =
+    bind_some (table_at two.0.0.0.0 two.0.0.0.1 two.0.0.1.1 two.0.1) (λ x. cond (eqb (length x.1) 0) (Some (code_from one.0.0 two.0.0 x.0)) None) c two.2 in
+    let ended : (eqb (length three.0.1) 0 ≡ true) × (code_from one.0.0 two.0.0 three.0.0 ≡ c) = guard_some (eqb (length three.0.1) 0) (code_from one.0.0 two.0.0 three.0.0) c three.2 in
+    let nothing_behind : three.0.1 ≡ [] = nil_from_length three.0.1 (eqb-true (length three.0.1) 0 ended.0) in
+    subst (λ (d : CodeData). IsFirstForm bytes d) ended.1
+    (whole_taken bytes one.0.1 two.0.1 three.0.1 one.0.0 two.0.0 three.0.0 one.1 two.1 three.1 nothing_behind)

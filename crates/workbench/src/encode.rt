@@ -1,6 +1,7 @@
 ghost use Rattle.std.specs.Prelude.{◌≡◌, ◌≢◌, ◌≤◌, [], length, IfOk, Err};
 ghost use Rattle.shelf_io.specs.Shelf.{OnFile};
 ghost use Rattle.workbench.specs.Limits.{code_limit, data_limit, text_limit};
+ghost use Rattle.workbench.specs.Words.{named};
 ghost use Rattle.workbench.specs.Counts.{CountsStatus, CountsStep};
 ghost use Rattle.workbench.specs.Steps.{IsInput, IsCodeRead, IsTextMade, IsWritten, status_of};
 ghost use Rattle.workbench.specs.Encode.{EndsOver, AnswersRefusal, Completes};
@@ -93,7 +94,7 @@ fn encode_files<F: Shelf>(
     source: &str,
     text: &str,
 ) -> Result<(), Status>
-    ensures ends { EndsOver (F.files shelf.old) (record { code = code.now; source = source.now; text = text.now }) (status_of result) (F.files shelf.new) }
+    ensures ends { EndsOver (F.files shelf.old) (named code.now source.now text.now) (status_of result) (F.files shelf.new) }
     ensures no_usage { result ≢ Err Status.Usage }
     ensures count { CountsStep (F.faults shelf.old) (F.faults shelf.new) result }
 {
@@ -111,9 +112,9 @@ pub fn encode_command<F: Shelf>(
     source: &str,
     text: &str,
 ) -> Status
-    ensures ends { EndsOver (F.files shelf.old) (record { code = code.now; source = source.now; text = text.now }) result (F.files shelf.new) }
-    ensures refused { AnswersRefusal (F.files shelf.old) (record { code = code.now; source = source.now; text = text.now }) result }
-    ensures complete { Completes (F.files shelf.old) (record { code = code.now; source = source.now; text = text.now })
+    ensures ends { EndsOver (F.files shelf.old) (named code.now source.now text.now) result (F.files shelf.new) }
+    ensures refused { AnswersRefusal (F.files shelf.old) (named code.now source.now text.now) result }
+    ensures complete { Completes (F.files shelf.old) (named code.now source.now text.now)
         (F.faults shelf.old, F.faults shelf.new) result (F.files shelf.new) }
     ensures no_usage { result ≢ Status.Usage }
     ensures count { CountsStatus (F.faults shelf.old) (F.faults shelf.new) result }
@@ -122,7 +123,7 @@ pub fn encode_command<F: Shelf>(
 }
 
 fn ended<F: Shelf>(alloc: Global, shelf: &mut F, code: &str, source: &str, text: &str) -> Status
-    ensures ends { EndsOver (F.files shelf.old) (record { code = code.now; source = source.now; text = text.now }) result (F.files shelf.new) }
+    ensures ends { EndsOver (F.files shelf.old) (named code.now source.now text.now) result (F.files shelf.new) }
     ensures no_usage { result ≢ Status.Usage }
     ensures count { CountsStatus (F.faults shelf.old) (F.faults shelf.new) result }
 {

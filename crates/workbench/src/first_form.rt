@@ -100,7 +100,8 @@ fn read_sizes(bytes: &[u8]) -> Option<(Sizes, &[u8])>
 #[tactic(auto, unfolding(crate::specs::Reading::row_at, crate::specs::Reading::code_row_at, text_reading::specs::Reading::both, text_reading::specs::Reading::behind))]
 fn row<'a>(bytes: &'a [u8], sizes: &Sizes, state: u32, word: u32) -> Option<(u64, u64, &'a [u8])>
     requires { AreReadable sizes.now }
-    ensures read { Gives (λ x. (row_of_numbers x.0 x.1, x.2.now)) result (code_row_at sizes.now.q sizes.now.states state word bytes.now) }
+    ensures read { Gives (λ x. (row_of_numbers x.0 x.1, x.2.now)) result
+        (code_row_at sizes.now.q sizes.now.states state word bytes.now) }
     ensures range { IfSome result (λ x. x.1 < 512) }
 {
     let (_, rest) = field(bytes, b' ', u64::from(state), u64::from(state))?;
@@ -128,7 +129,8 @@ fn state_rows<'a>(
     state: u32,
 ) -> Result<(Vec<CodeRow>, &'a [u8]), Status>
     requires { AreReadable sizes.now }
-    ensures { GivesForm (λ x. (x.0.items, x.1.now)) result (state_at sizes.now.p sizes.now.q sizes.now.states state bytes.now) }
+    ensures { GivesForm (λ x. (x.0.items, x.1.now)) result
+        (state_at sizes.now.p sizes.now.q sizes.now.states state bytes.now) }
 {
     let count = words(sizes.p);
     let mut rows = Vec::with_capacity(alloc, count as usize)?;
@@ -153,7 +155,8 @@ fn table<'a>(
     sizes: &Sizes,
 ) -> Result<(Vec<Vec<CodeRow>>, &'a [u8]), Status>
     requires { AreReadable sizes.now }
-    ensures { GivesForm (λ x. (map (λ rows. rows.items) x.0.items, x.1.now)) result (table_at sizes.now.p sizes.now.q sizes.now.states bytes.now) }
+    ensures { GivesForm (λ x. (map (λ rows. rows.items) x.0.items, x.1.now)) result
+        (table_at sizes.now.p sizes.now.q sizes.now.states bytes.now) }
 {
     let mut table = Vec::with_capacity(alloc, sizes.states as usize)?;
     let mut rest = bytes;

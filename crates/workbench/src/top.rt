@@ -43,10 +43,12 @@ pub fn run<F: Shelf, K: TextSink>(
     ensures no_form { IfNone (form_of (map string_bytes words.now)) (F.files shelf.new ≡ F.files shelf.old) }
 
     // What each status says of the files.
-    ensures ends { IfSome (form_of (map string_bytes words.now)) (λ form. EndsOver (F.files shelf.old) form result (F.files shelf.new)) }
+    ensures ends { IfSome (form_of (map string_bytes words.now)) (λ form.
+        EndsOver (F.files shelf.old) form result (F.files shelf.new)) }
 
     // Each refusal comes exactly where its cause holds, a fault of the shelf and want of memory aside.
-    ensures refused { IfSome (form_of (map string_bytes words.now)) (λ form. AnswersRefusal (F.files shelf.old) form result) }
+    ensures refused { IfSome (form_of (map string_bytes words.now)) (λ form.
+        AnswersRefusal (F.files shelf.old) form result) }
 
     // Where there is no cause and no fault, the text is written, or memory was wanted.
     ensures complete { IfSome (form_of (map string_bytes words.now)) (λ form.
