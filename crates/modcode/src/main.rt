@@ -1,6 +1,8 @@
 //! The program `modcode`: its words, and the real files and output, handed to `workbench::run`.
 #![tactic(auto)]
 
+ghost use Rattle.std.specs.Prelude.{◌≡◌, ◌⊎◌, IfErr};
+
 use shelf_io::{HostShelf, HostSink};
 use std::env;
 use std::io::ErrorKind;
@@ -9,7 +11,9 @@ use std::rt::{Env, Files};
 use workbench::{Status, run};
 
 /// The words behind the program's name. One that is no UTF-8 is a word of no form.
-fn words_of(rt: &(impl Env + AllocGlobal)) -> Result<Vec<String>, Status> {
+fn words_of(rt: &(impl Env + AllocGlobal)) -> Result<Vec<String>, Status>
+    ensures { IfErr result (λ status. (status ≡ Status.Usage) ⊎ (status ≡ Status.NoMemory)) }
+{
     let words = match env::args(rt) {
         Ok(words) => words,
         Err(error) if error.kind() == ErrorKind::OutOfMemory => return Err(Status::NoMemory),
