@@ -1,10 +1,11 @@
 -- What a code writes for data words that follow one another.
-use Rattle.std.proofs.Common.{◌≡◌, ℕ, ◌*◌, ◌^◌, ◌<◌, zero, suc, get_or, List, [], ◌∷◌, ◌++◌, length, refl, sym, ap, ◌∙◌, arith, append_assoc}
+use Rattle.std.proofs.Common.{◌≡◌, ℕ, ◌*◌, ◌^◌, ◌<◌, get_or, List, [], ◌∷◌, ◌++◌, length, refl, sym, ap, ◌∙◌, arith, append_assoc}
 use Rattle.std.proofs.lemmas.List.{length-append, append-nil}
 use Rattle.std.proofs.lemmas.List.Elements.{All-get_or}
 use Rattle.std.proofs.lemmas.List.Concat.{flat_map-append}
 use Rattle.symbol_base.specs.declared.Block.{Block}
 use Rattle.symbol_base.specs.Block.{symbols_of}
+use Rattle.symbol_base.proofs.BlockLemmas.{length-symbols_of}
 use Rattle.code_spec.specs.declared.CodeRow.{CodeRow}
 use Rattle.code_spec.specs.Code.{CodeData, IsCode, IsRowOf, IsStateOf}
 use Rattle.code_spec.specs.Output.{row_at, output_from, state_after, output, flat, Writes}
@@ -26,10 +27,6 @@ pub length-output_from : (rows : List (List CodeRow)) (state : ℕ) (words : Lis
     → length (output_from rows state words) ≡ length words
 length-output_from rows state [] = refl
 length-output_from rows state (word ∷ words) = omega (arith, length-output_from rows (row_at rows state word).to words)
-
-pub length-symbols_of : (alphabet q value : ℕ) → length (symbols_of alphabet q value) ≡ q
-length-symbols_of alphabet zero value = refl
-length-symbols_of alphabet (suc q) value = omega (arith, length-symbols_of alphabet q value)
 
 pub flat-append : (c : CodeData) (xs ys : List Block) → flat c (xs ++ ys) ≡ flat c xs ++ flat c ys
 flat-append c xs ys = flat_map-append (λ block. symbols_of c.constraint.alphabet c.q block.value) xs ys

@@ -5,35 +5,17 @@ use Rattle.std.proofs.lemmas.Bool.{cases_eq}
 use Rattle.std.proofs.Math.Nat.{suc-add, zero-add, mul_comm, mul-zero}
 use Rattle.gf256.specs.Field.{IsElement, plus, product, times, IsProduct, power, alpha, inverse}
 use Rattle.gf256.specs.declared.tables.TheConstants.{LOGARITHMS}
-use Rattle.gf256.proofs.Polynomials
-use Rattle.gf256.proofs.Polynomials.{plus_below, product_comm, product_assoc, product-zero, product-one, product-plus}
+use Rattle.gf256.proofs.Polynomials.{plus_self_left, plus_below, product_comm, product_assoc, product-zero, product-one, product-plus}
 use Rattle.gf256.proofs.Remainders.{IsRemainder, IsRemainder-single, IsRemainder-element, IsRemainder-plus, times-IsRemainder, times_from_remainder, times-times-IsRemainder, alpha-times}
 use Rattle.gf256.proofs.PowerTables.{steps, steps-lt, steps-255, steps-LOGARITHMS, LOGARITHMS-steps}
-
 -- ---- the sum
 
-pub plus_comm : (a b : ℕ) → plus a b ≡ plus b a
-plus_comm a b = Polynomials.plus_comm a b
-
-pub plus_assoc : (a b c : ℕ) → plus (plus a b) c ≡ plus a (plus b c)
-plus_assoc a b c = Polynomials.plus_assoc a b c
-
-pub plus-zero : (a : ℕ) → plus a 0 ≡ a
-plus-zero a = Polynomials.plus-zero a
-
-pub zero-plus : (a : ℕ) → plus 0 a ≡ a
-zero-plus a = Polynomials.zero-plus a
-
--- each element is its own negative
-pub plus_self : (a : ℕ) → plus a a ≡ 0
-plus_self a = Polynomials.plus_self a
-
-pub same_from_plus : (a b : ℕ) → plus a b ≡ 0 → a ≡ b
-same_from_plus a b e = Polynomials.same_from_plus a b e
+-- elements are polynomials, and so are their sums
+pub use Rattle.gf256.proofs.Polynomials.{plus_comm, plus_assoc, plus_exchange, plus-zero, zero-plus, plus_self, same_from_plus}
 
 pub plus_cancel_left : (a b c : ℕ) → plus a b ≡ plus a c → b ≡ c
 plus_cancel_left a b c e =
-    sym (Polynomials.plus_self_left a b) ∙ ap (λ s. plus a s) e ∙ Polynomials.plus_self_left a c
+    sym (plus_self_left a b) ∙ ap (λ s. plus a s) e ∙ plus_self_left a c
 
 pub plus-lt : (a b : ℕ) → IsElement a → IsElement b → IsElement (plus a b)
 plus-lt a b a_in b_in = plus_below 8 a b a_in b_in

@@ -2,12 +2,12 @@
 use Rattle.std.proofs.Common.{◌≡◌, ◌≢◌, ℕ, zero, suc, ◌+◌, ◌-◌, ◌*◌, ◌<◌, ◌≤◌, List, [], ◌∷◌, length, refl, sym, ◌∙◌, ap, arith, subst, ⊎_elim, get_or}
 use Rattle.std.specs.Prelude.{All}
 use Rattle.gf256.specs.Field.{IsElement, plus, times, power, alpha, inverse}
-use Rattle.gf256.proofs.FieldLaws.{plus-zero, zero-plus, same_from_plus, plus-lt, times-lt, times_comm, times_assoc, times_left_comm, times-zero, zero-times, one-times, times-plus, plus-times, power-zero, power-suc, power-lt, power-add, power-mul, times-inverse, no_zero_divisors, alpha-ne-zero}
+use Rattle.gf256.proofs.FieldLaws.{plus_exchange, plus-zero, zero-plus, same_from_plus, plus-lt, times-lt, times_comm, times_assoc, times_left_comm, times-zero, zero-times, one-times, times-plus, plus-times, power-zero, power-suc, power-lt, power-add, power-mul, times-inverse, no_zero_divisors, alpha-ne-zero}
 use Rattle.rs_code.specs.Word.{weighted_sum, IsNear}
 use Rattle.rs_code.specs.Polynomial.{value_at, sum_of, scaled, product, IsBelowDegree}
 use Rattle.rs_code.specs.Laws.{AreSums, IsKeyPair, LocatorFindsErrors}
 use Rattle.rs_code.specs.Errors.{weight, moment}
-use Rattle.rs_code.proofs.Moments.{plus_interchange, weighed, weighed-zero, weight-weighed, length-weighed, Elements-weighed, Elements, AreZero, vanishing}
+use Rattle.rs_code.proofs.Moments.{weighed, weighed-zero, weight-weighed, length-weighed, Elements-weighed, Elements, AreZero, vanishing}
 use Rattle.rs_code.proofs.Words.{points, weighted_sum-moment, length-points, Elements-points, points_distinct, elements_of, length-sum_of, weighted_sum-sum_of, Elements-sum_of, differences-weight}
 
 -- ---- the coefficients of sums and products
@@ -96,7 +96,7 @@ moment-turned-suc k i a p (y ∷ ys) (x ∷ xs) xs_in nonzero =
       moment-turned-suc k i a p ys xs xs_in.1 nonzero.1,
       times-plus a (times y (times (times x (power x k)) (power x i))) (moment ys xs (suc k + i)),
     )
-    (plus_interchange _ _ _ _)
+    (plus_exchange _ _ _ _)
 
 -- a polynomial of degree 0 multiplies the moments by its constant term
 pub moment-turned-zero : (i a : ℕ) (p ys xs : List ℕ) → IsElement a → IsBelowDegree 0 p

@@ -1,7 +1,7 @@
 -- Sums of the form y_1 x_1^i + y_2 x_2^i + .. : where enough of them are 0, all the y are.
 use Rattle.std.proofs.Common.{◌≡◌, ◌≢◌, ℕ, zero, suc, ◌<◌, ◌≤◌, List, [], ◌∷◌, length, refl, sym, ◌∙◌, ap, arith, subst, ⊎_elim}
 use Rattle.gf256.specs.Field.{IsElement, plus, times, power}
-use Rattle.gf256.proofs.FieldLaws.{plus_comm, plus_assoc, plus-zero, zero-plus, plus_self, same_from_plus, plus-lt, times-lt, times_assoc, times_left_comm, times-zero, zero-times, times-one, one-times, times-plus, plus-times, power-zero, power-suc, no_zero_divisors}
+use Rattle.gf256.proofs.FieldLaws.{plus_exchange, plus-zero, zero-plus, plus_self, same_from_plus, plus-lt, times-lt, times_assoc, times_left_comm, times-zero, zero-times, times-one, one-times, times-plus, plus-times, power-zero, power-suc, no_zero_divisors}
 use Rattle.rs_code.specs.Polynomial.{value_at}
 use Rattle.rs_code.specs.Errors.{weight, moment, IsApart, AreDistinct}
 
@@ -17,11 +17,6 @@ combined [] ys xs i = 0
 combined (c ∷ v) ys xs i = plus (times c (moment ys xs i)) (combined v ys xs (suc i))
 
 -- the middle terms of two sums change places
-pub plus_interchange : (a b c d : ℕ) → plus (plus a b) (plus c d) ≡ plus (plus a c) (plus b d)
-plus_interchange a b c d =
-    plus_assoc a b (plus c d) ∙ ap (plus a) (sym (plus_assoc b c d) ∙ ap (λ n. plus n d) (plus_comm b c) ∙ plus_assoc c b d)
-    ∙ sym (plus_assoc a c (plus b d))
-
 -- one value weighed by c + x v, at one point
 pub weighed_term : (y c x v p : ℕ) → times (times y (plus c (times x v))) p ≡ plus (times c (times y p)) (times (times y v) (times x p))
 weighed_term y c x v p =
@@ -33,7 +28,7 @@ weighed-cons c v [] xs i = sym (rw (times-zero c, plus-zero 0) refl)
 weighed-cons c v (y ∷ ys) [] i = sym (rw (times-zero c, plus-zero 0) refl)
 weighed-cons c v (y ∷ ys) (x ∷ xs) i =
     rw (power-suc x i, weighed-cons c v ys xs i, weighed_term y c x (value_at v x) (power x i), times-plus c (times y (power x i)) (moment ys xs i))
-    (plus_interchange _ _ _ _)
+    (plus_exchange _ _ _ _)
 
 -- weighed by a function that is 0, every moment is 0
 pub weighed-zero : (f : ℕ → ℕ) → ((x : ℕ) → f x ≡ 0) → (ys xs : List ℕ) (i : ℕ) → moment (weighed f ys xs) xs i ≡ 0

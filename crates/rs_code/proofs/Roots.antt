@@ -4,10 +4,10 @@ use Rattle.std.proofs.lemmas.List.{map-append}
 use Rattle.std.proofs.lemmas.Bool.Decides.{eqb_tells}
 use Rattle.std.proofs.lemmas.Bool.{cases_lt}
 use Rattle.gf256.specs.Field.{IsElement, plus, times, power, alpha}
-use Rattle.gf256.proofs.FieldLaws.{plus_comm, plus-zero, zero-plus, plus_self, same_from_plus, plus-lt, times_left_comm, times-zero, times-plus, plus-times, power-lt, no_zero_divisors, alpha_distinct}
+use Rattle.gf256.proofs.FieldLaws.{plus_exchange, plus_comm, plus-zero, zero-plus, plus_self, same_from_plus, plus-lt, times_left_comm, times-zero, times-plus, plus-times, power-lt, no_zero_divisors, alpha_distinct}
 use Rattle.rs_code.specs.Polynomial.{value_at, sum_of, IsBelowDegree}
 use Rattle.rs_code.specs.Errors.{weight, powers, HasRoots, root_exponents, IsRooted, IsApart, AreDistinct, AreBelow}
-use Rattle.rs_code.proofs.Moments.{plus_interchange, weighed, Elements, AreZero}
+use Rattle.rs_code.proofs.Moments.{weighed, Elements, AreZero}
 use Rattle.rs_code.proofs.Words.{points, length-sum_of}
 use Rattle.rs_code.proofs.Locators.{value_at-lt}
 
@@ -24,7 +24,7 @@ quotient_term : (c x a v w u : ℕ) → plus v w ≡ times (plus x a) u
     → plus (plus c (times x v)) (plus c (times a w)) ≡ times (plus x a) (plus w (times x u))
 quotient_term c x a v w u e =
     let left : plus (plus c (times x v)) (plus c (times a w)) ≡ plus (times x v) (times a w) =
-    plus_interchange c (times x v) c (times a w)
+    plus_exchange c (times x v) c (times a w)
     ∙ ap (λ n. plus n (plus (times x v) (times a w))) (plus_self c) ∙ zero-plus (plus (times x v) (times a w)) in
     let right : times (plus x a) (plus w (times x u)) ≡ plus (times x v) (times a w) =
     rw (
@@ -34,7 +34,7 @@ quotient_term c x a v w u e =
       plus-times x a w,
       times-plus x v w,
       plus_comm (times x v) (times x w),
-      plus_interchange (times x w) (times a w) (times x w) (times x v),
+      plus_exchange (times x w) (times a w) (times x w) (times x v),
       plus_self (times x w),
       zero-plus (plus (times a w) (times x v)),
     )

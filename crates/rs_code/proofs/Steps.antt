@@ -1,6 +1,6 @@
 -- What the loops over a word's weighted sums keep.
 use Rattle.std.proofs.Common.{◌≡◌, ◌≢◌, ℕ, zero, suc, ◌+◌, ◌-◌, ◌*◌, ◌<◌, ◌≤◌, List, [], ◌∷◌, ◌++◌, length, take, drop, set, refl, sym, ◌∙◌, ap, arith, subst, get_or, length-append, add-one, add-zero, zero-add, below_more, get_or-set_other, get_or-set_same, drop-drop, length-set, append-nil, replicate}
-use Rattle.std.proofs.lemmas.List.{take_more, take_more_set, take_all, length-map, length-take-le, map_push, length_push, map-set, take-map, drop-map, drop_more, get_or-map, get_or-take, get_or-drop, drop-set-lt}
+use Rattle.std.proofs.lemmas.List.{take_more, take_more_set, take_all, length-map, length-take-le, map_push, length_push, take-map, drop-map, drop_more, get_or-map, get_or-take, get_or-drop, drop-set-lt}
 use Rattle.std.proofs.lemmas.Bool.{ne_eqb}
 use Rattle.std.specs.Prelude.{bit_xor}
 use Rattle.gf256.specs.Field.{IsElement, plus, times, power, alpha}
@@ -9,7 +9,7 @@ use Rattle.rs_code.specs.Word.{weighted_sum}
 use Rattle.rs_code.specs.Polynomial.{sum_of, value_at}
 use Rattle.rs_code.specs.Errors.{weight, moment, powers, HasRoots, IsRooted, AreBelow, AreDistinct, IsEquation, root_exponents}
 use Rattle.gf256.specs.declared.Gf.{Gf}
-use Rattle.gf256.specs.Linear.{values, matrix, dot, Solves, square, IsVector, IsNonzero, IsSingular}
+use Rattle.gf256.specs.Linear.{values, dot, Solves, square, IsVector, IsNonzero, IsSingular}
 use Rattle.rs_code.proofs.Moments.{AreZero, moment-AreZero, vanishing}
 use Rattle.rs_code.proofs.Locators.{at-sum_of}
 use Rattle.rs_code.proofs.Patterns.{dot-moment}
@@ -294,23 +294,8 @@ root_kept p exponents n count within root found =
 
 -- ---- rows of numbers
 
-pub matrix-set : (rows : List (List Gf)) (i : ℕ) (row : List Gf) → matrix (set rows i row) ≡ set (matrix rows) i (values row)
-matrix-set rows i row = map-set values rows i row
-
-pub values-set : (elements : List Gf) (i : ℕ) (element : Gf) → values (set elements i element) ≡ set (values elements) i element.value
-values-set elements i element = map-set (λ g. g.value) elements i element
-
 pub values-take : (n : ℕ) (elements : List Gf) → values (take n elements) ≡ take n (values elements)
 values-take n elements = sym (take-map (λ g. g.value) n elements)
 
 pub values-drop : (n : ℕ) (elements : List Gf) → values (drop n elements) ≡ drop n (values elements)
 values-drop n elements = sym (drop-map (λ g. g.value) n elements)
-
-pub at-values : (elements : List Gf) (i : ℕ) (d : Gf) → i < length elements → get_or (values elements) i 0 ≡ (get_or elements i d).value
-at-values elements i d within = get_or-map (λ g. g.value) elements i d 0 within
-
-pub length-values : (elements : List Gf) → length (values elements) ≡ length elements
-length-values elements = length-map elements (λ g. g.value)
-
-pub length-matrix : (rows : List (List Gf)) → length (matrix rows) ≡ length rows
-length-matrix rows = length-map rows values

@@ -5,12 +5,12 @@ use Rattle.std.proofs.lemmas.Bool.Decides.{nat_tests, eqb_tells}
 use Rattle.std.specs.Prelude.{All}
 use Rattle.std.proofs.lemmas.List.Elements.{All-head, All-tail}
 use Rattle.gf256.specs.Field.{IsElement, plus, power, alpha}
-use Rattle.gf256.proofs.FieldLaws.{plus-zero, plus_self, same_from_plus, plus-lt, plus-times, power-lt, power-mul, alpha_distinct}
+use Rattle.gf256.proofs.FieldLaws.{plus_exchange, plus-zero, plus_self, same_from_plus, plus-lt, plus-times, power-lt, power-mul, alpha_distinct}
 use Rattle.rs_code.specs.Word.{weighted_sum, IsReedSolomonWord, differences}
 use Rattle.rs_code.specs.Polynomial.{sum_of}
 use Rattle.rs_code.specs.Laws.{WordsAreFarApart, NearIsSingle}
 use Rattle.rs_code.specs.Errors.{weight, moment, IsApart, AreDistinct}
-use Rattle.rs_code.proofs.Moments.{plus_interchange, Elements, AreZero, weight-cons_nonzero, vanishing}
+use Rattle.rs_code.proofs.Moments.{Elements, AreZero, weight-cons_nonzero, vanishing}
 
 -- the points of the symbols of a word of n symbols: the powers of alpha from n - 1 down to 0
 abbrev pub points : ℕ → List ℕ
@@ -57,7 +57,7 @@ weighted_sum-sum_of (x ∷ u) [] same i = absurd (omega (arith, same))
 weighted_sum-sum_of (x ∷ u) (y ∷ v) same i =
     let rest_same : length u ≡ length v = omega (arith, same) in
     rw (length-sum_of u v rest_same, weighted_sum-sum_of u v rest_same i, ← rest_same, plus-times x y (power alpha (length u * i)))
-    (plus_interchange _ _ _ _)
+    (plus_exchange _ _ _ _)
 
 pub Elements-sum_of : (u v : List ℕ) → Elements u → Elements v → Elements (sum_of u v)
 Elements-sum_of [] v u_in v_in = v_in

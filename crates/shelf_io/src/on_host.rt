@@ -56,7 +56,7 @@ impl<R: Files + AllocGlobal> HostShelf<R> {
         if error.kind() == ErrorKind::NotFound {
             return Unread::Missing;
         }
-        self.faults = with_fault(self.faults);
+        let Failed = self.fault();
         Unread::Failed
     }
 

@@ -8,6 +8,7 @@ use Rattle.constraint_spec.specs.Constraint.{IsWordOf}
 use Rattle.code_spec.specs.Code.{CodeData}
 use Rattle.code_spec.specs.PlainText.{plain_symbols, plain_text}
 use Rattle.code_text_spec.specs.CodeText.{IsFirstForm}
+use Rattle.text_reading.proofs.Numbers.{none_of}
 use Rattle.workbench.specs.declared.status.CodeFault.TheVariants.{NotFirstForm, NotWord}
 use Rattle.workbench.specs.declared.status.Status.{Status}
 use Rattle.workbench.specs.declared.status.Status.TheVariants.{Done, Usage, ShelfFault, FileTooLong, CodeRefused, NoMemory, FileMissing}
@@ -16,7 +17,7 @@ use Rattle.workbench.specs.Words.{EncodeWords}
 use Rattle.workbench.specs.Counts.{CountsStatus}
 use Rattle.workbench.specs.Reading.{first_form_at}
 use Rattle.workbench.specs.Encode.{HasCode, HasSource, HasBoth, IsReady, IsGood, IsMissing, IsTooLong, IsNotFirstForm, IsNotWord, Refuses, Encodes, Ends, EndsOver, AnswersRefusal, Completes}
-use Rattle.workbench.proofs.FirstFormLaws.{some_one, one_code, first_form_again, first_form_takes}
+use Rattle.workbench.proofs.FirstFormLaws.{some_one, not_both, one_code, first_form_again, first_form_takes}
 use Rattle.workbench.proofs.EncodeEnds.{some_and}
 
 -- the refusal up to the test of the digits, or none
@@ -34,13 +35,6 @@ key_code source (Some bytes) = cond (ltb code_limit (length bytes)) (Some (FileT
 
 key : Files → EncodeWords → Option Status
 key files words = key_code (files words.source) (files words.code)
-
-none_of : {A : Type 0} (o : Option A) → ((x : A) → o ≡ Some x → ⊥) → o ≡ None
-none_of None h = refl
-none_of (Some x) h = absurd (h x refl)
-
-not_both : {A : Type 0} (x : A) (o : Option A) → o ≡ Some x → o ≡ None → ⊥
-not_both x o e f = cc
 
 -- the code is read
 key-has_code : (files : Files) (words : EncodeWords) (c : CodeData) → HasCode files words c → key files words ≡ key_source c (files words.source)

@@ -119,6 +119,9 @@ first_form_again bytes c form =
 pub some_one : {A : Type 0} (x y : A) (o : Option A) → o ≡ Some x → o ≡ Some y → x ≡ y
 some_one x y o e f = cc
 
+pub not_both : {A : Type 0} (x : A) (o : Option A) → o ≡ Some x → o ≡ None → ⊥
+not_both x o e f = cc
+
 -- bytes are the text of one code at most
 pub one_code : (bytes : List ℕ) (c d : CodeData) → IsFirstForm bytes c → IsFirstForm bytes d → c ≡ d
 one_code bytes c d one other = some_one c d (first_form_at bytes) (first_form_again bytes c one) (first_form_again bytes d other)

@@ -6,7 +6,7 @@ use Rattle.workbench.specs.declared.status.Status.{Status}
 use Rattle.workbench.specs.declared.status.Status.TheVariants.{Done, Usage, ShelfFault, FileTooLong, CodeRefused, NoMemory, FileMissing}
 use Rattle.workbench.specs.Reading.{first_form_at}
 use Rattle.workbench.specs.ReadForm.{RefusesForm, GivesForm, ReadsForm}
-use Rattle.workbench.proofs.FirstFormLaws.{first_form_again, first_form_takes}
+use Rattle.workbench.proofs.FirstFormLaws.{not_both, first_form_again, first_form_takes}
 
 -- a part that can't be read leaves nothing of the whole
 pub refuses_whole : {X Y : Type 0} (status : Status) (part : Option X) (total : Option Y) → RefusesForm status part → (part ≡ None → total ≡ None) → RefusesForm status total
@@ -19,11 +19,8 @@ refuses_whole ShelfFault part total h ends = h
 refuses_whole (FileTooLong limit) part total h ends = h
 refuses_whole (FileMissing place) part total h ends = h
 
-none_is_none : {A : Type 0} (x : A) (o : Option A) → o ≡ None → o ≡ Some x → ⊥
-none_is_none x o e f = cc
-
 refuses_form : (bytes : List ℕ) (status : Status) → RefusesForm status (first_form_at bytes) → ReadsForm bytes (Err status)
-refuses_form bytes (CodeRefused NotFirstForm) h = λ c form. none_is_none c (first_form_at bytes) h (first_form_again bytes c form)
+refuses_form bytes (CodeRefused NotFirstForm) h = λ c form. not_both c (first_form_at bytes) (first_form_again bytes c form) h
 refuses_form bytes (CodeRefused NotWord) h = h
 refuses_form bytes NoMemory h = tt
 refuses_form bytes Done h = h

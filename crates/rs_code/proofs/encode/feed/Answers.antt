@@ -3,7 +3,8 @@ use Rattle.std.specs.Prelude.{bit_xor}
 use Rattle.gf256.specs.Field.{times}
 use Rattle.gf256.specs.Linear.{values}
 use Rattle.rs_code.specs.Word.{weighted_sum}
-use Rattle.rs_code.proofs.Steps.{at-values, length-values, left_more, bit_xor-plus}
+use Rattle.gf256.proofs.Lists.{get_or-values, length-values}
+use Rattle.rs_code.proofs.Steps.{left_more, bit_xor-plus}
 use Rattle.rs_code.proofs.Encoding.{fed, fed_more, fed_all, weighted_sum-fed}
 use Rattle.rs_code.proofs.encode.feed.Goals as goal
 
@@ -13,7 +14,7 @@ loop-k-preserved c =
     let g : List ℕ = values c.args.generator.now in
     let f : ℕ = bit_xor c.args.symbol (get_or before 0 0) in
     let value : c.mul.result.value ≡ times f (get_or g c.loop-k.k 0) =
-    c.mul.ensures.value ∙ ap (times f) (sym (at-values c.args.generator.now c.loop-k.k (record { value = 0 }) (omega arith))) in
+    c.mul.ensures.value ∙ ap (times f) (sym (get_or-values c.args.generator.now c.loop-k.k (record { value = 0 }) (omega arith))) in
     record {
       written = rw value (fed_more f g c.loop-k.register before c.loop-k.k (omega arith) c.loop-k.auto.register
           (omega (arith, length-values c.args.generator.now)) c.loop-k.invariant.written c.loop-k.invariant.left);
@@ -31,7 +32,7 @@ is_fed c =
     let last : ℕ = length before - 1 in
     let end : c.loop-k.k ≡ last = omega arith in
     let value : c.mul-2.result.value ≡ times f (get_or g last 0) =
-    c.mul-2.ensures.value ∙ ap (times f) (sym (at-values c.args.generator.now last (record { value = 0 }) (omega arith))) in
+    c.mul-2.ensures.value ∙ ap (times f) (sym (get_or-values c.args.generator.now last (record { value = 0 }) (omega arith))) in
     rw value (fed_all f g c.loop-k.register before last (omega arith) c.loop-k.auto.register
     (omega (arith, length-values c.args.generator.now))
     (subst (λ k. take k c.loop-k.register ≡ take k (fed f g before)) end c.loop-k.invariant.written))

@@ -4,7 +4,8 @@ use Rattle.gf256.specs.Field.{plus, times}
 use Rattle.gf256.specs.Linear.{values}
 use Rattle.rs_code.specs.Word.{weighted_sum}
 use Rattle.rs_code.proofs.Roots.{at_zeros}
-use Rattle.rs_code.proofs.Steps.{at-values, length-values, values-set, zeros_of_replicate}
+use Rattle.gf256.proofs.Lists.{get_or-values, length-values, values-set}
+use Rattle.rs_code.proofs.Steps.{zeros_of_replicate}
 use Rattle.rs_code.proofs.Encoding.{raised, raised_more, length-raised, weighted_sum-raised}
 use Rattle.rs_code.proofs.encode.with_root.Goals as goal
 
@@ -19,7 +20,7 @@ loop-k-preserved c =
     let k : ℕ = c.loop-k.k in
     let set_is : values (set c.loop-k.product k c.add.result) ≡ set now k c.add.result.value = values-set c.loop-k.product k c.add.result in
     let here : (get_or c.args.polynomial.now k (record { value = 0 })).value ≡ get_or g k 0 =
-    sym (at-values c.args.polynomial.now k (record { value = 0 }) (omega arith)) in
+    sym (get_or-values c.args.polynomial.now k (record { value = 0 }) (omega arith)) in
     let value : c.add.result.value ≡ plus (get_or g k 0) (times c.args.root.value c.loop-k.above.value) =
     c.add.ensures.value ∙ rw (here, c.mul.ensures.value) refl in
     record {

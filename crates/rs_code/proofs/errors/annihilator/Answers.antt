@@ -1,7 +1,8 @@
 use Rattle.std.proofs.Common.{◌≡◌, ◌∙◌, sym, ap, ℕ, ◌<◌, ◌+◌, List, [], length, length-set, arith, take, drop, get_or, subst}
 use Rattle.std.proofs.lemmas.List.{get_or-take, length-take-le}
 use Rattle.gf256.specs.Linear.{values, matrix, dot}
-use Rattle.rs_code.proofs.Steps.{row_more, matrix-set, length-matrix, values-take, values-drop}
+use Rattle.gf256.proofs.Lists.{matrix-set, length-matrix}
+use Rattle.rs_code.proofs.Steps.{row_more, values-take, values-drop}
 use Rattle.rs_code.proofs.errors.annihilator.Goals as goal
 
 pub loop-i-preserved : goal.loop-i-preserved

@@ -2,7 +2,7 @@ use Rattle.std.proofs.Common.{◌≡◌, ◌∙◌, sym, ap, ℕ, ◌*◌, List,
 use Rattle.std.proofs.lemmas.List.{map_more, take_more_set, take-set, take_all}
 use Rattle.gf256.specs.Field.{power, alpha}
 use Rattle.gf256.specs.Linear.{values}
-use Rattle.rs_code.proofs.Steps.{values-set, length-values}
+use Rattle.gf256.proofs.Lists.{values-set, length-values}
 use Rattle.rs_code.proofs.errors.equation.Goals as goal
 
 pub loop-k-preserved : goal.loop-k-preserved

@@ -1,7 +1,8 @@
 use Rattle.std.proofs.Common.{◌∙◌, sym, ℕ, ◌<◌, ◌+◌, List, [], length-set, arith, get_or, subst, refl}
 use Rattle.gf256.specs.Linear.{values, matrix}
 use Rattle.rs_code.specs.Errors.{IsEquation}
-use Rattle.rs_code.proofs.Steps.{row_more, matrix-set, length-matrix, at-values, solved_moments, not_singular}
+use Rattle.gf256.proofs.Lists.{matrix-set, length-matrix, get_or-values}
+use Rattle.rs_code.proofs.Steps.{row_more, solved_moments, not_singular}
 use Rattle.rs_code.proofs.errors.error_values.Goals as goal
 
 pub loop-i-preserved : goal.loop-i-preserved
@@ -15,7 +16,7 @@ loop-i-preserved c =
           (row_more (matrix c.loop-i.rows) (λ k row. IsEquation exponents (get_or sums k 0) k row) c.loop-i.i (values c.equation.result) []
           (omega (arith, length-matrix c.loop-i.rows)) c.loop-i.invariant.equations
           (subst (λ sum. IsEquation exponents sum c.loop-i.i (values c.equation.result))
-          (sym (at-values c.args.sums.now c.loop-i.i (record { value = 0 }) (omega arith))) c.equation.ensures));
+          (sym (get_or-values c.args.sums.now c.loop-i.i (record { value = 0 }) (omega arith))) c.equation.ensures));
     }
 
 pub unreachable-requires : goal.unreachable-requires

@@ -4,7 +4,8 @@ use Rattle.std.proofs.lemmas.List.Elements.{All-take, All-set, All-replicate, Al
 use Rattle.gf256.specs.Field.{IsElement}
 use Rattle.gf256.proofs.FieldLaws.{plus-lt}
 use Rattle.rs_code.proofs.Moments.{AreZero}
-use Rattle.rs_code.proofs.Steps.{AreBelow-at, zeros_of_replicate, weighted_sum-AreZero, IsRooted-AreZero, moment-none, bit_xor-plus, placed_more, rooted_more, at-values}
+use Rattle.gf256.proofs.Lists.{get_or-values}
+use Rattle.rs_code.proofs.Steps.{AreBelow-at, zeros_of_replicate, weighted_sum-AreZero, IsRooted-AreZero, moment-none, bit_xor-plus, placed_more, rooted_more}
 use Rattle.rs_code.proofs.errors.place_errors.Goals as goal
 
 pub loop-k-init : goal.loop-k-init
@@ -36,7 +37,7 @@ loop-k-preserved c =
     let there : at + (get_or exponents k 0 + 1) ≡ n = omega (arith, below) in
     let enough : n ≤ length c.loop-k.errors = omega arith in
     let value : get_or ys k 0 ≡ (get_or c.args.error_values.now k (record { value = 0 })).value =
-    at-values c.args.error_values.now k (record { value = 0 }) (omega arith) in
+    get_or-values c.args.error_values.now k (record { value = 0 }) (omega arith) in
     record {
       full = length-set c.loop-k.errors at _ ∙ c.loop-k.invariant.full;
       elements = All-set IsElement c.loop-k.errors at _
