@@ -3,7 +3,7 @@
 use Rattle.std.proofs.Common.{◌≡◌, ◌≢◌, ℕ, zero, suc, ◌+◌, ◌*◌, ◌/◌, ◌%◌, ◌<◌, ◌⊎◌, inl, inr, get_or, refl, sym, ap, ap₂, ◌∙◌, subst, arith}
 use Rattle.std.proofs.lemmas.Bool.{cases_eq}
 use Rattle.std.proofs.Math.Nat.{suc-add, zero-add, mul_comm, mul-zero}
-use Rattle.gf256.specs.Field.{IsElement, plus, product, times, IsProduct, power, alpha, inverse}
+use Rattle.gf256.specs.Field.{IsElement, plus, carryless_product, times, IsProduct, power, alpha, inverse}
 use Rattle.gf256.specs.declared.tables.TheConstants.{LOGARITHMS}
 use Rattle.gf256.proofs.Polynomials.{plus_self_left, plus_below, product_comm, product_assoc, product-zero, product-one, product-plus}
 use Rattle.gf256.proofs.Remainders.{IsRemainder, IsRemainder-single, IsRemainder-element, IsRemainder-plus, times-IsRemainder, times_from_remainder, times-times-IsRemainder, alpha-times}
@@ -31,7 +31,7 @@ IsProduct-times a b =
 -- .. which is the only one
 pub IsProduct-single : (a b c d : ℕ) → IsProduct a b c → IsProduct a b d → c ≡ d
 IsProduct-single a b c d h k =
-    IsRemainder-single (product a b) c d
+    IsRemainder-single (carryless_product a b) c d
     (record { element = h.element; quotient = h.quotient; division = h.division })
     (record { element = k.element; quotient = k.quotient; division = k.division })
 
@@ -47,9 +47,9 @@ pub times_assoc : (a b c : ℕ) → times (times a b) c ≡ times a (times b c)
 times_assoc a b c =
     let left = times-times-IsRemainder a b c in
     let right = times-times-IsRemainder b c a in
-    let same : product (product b c) a ≡ product (product a b) c =
-    product_comm (product b c) a ∙ sym (product_assoc a b c) in
-    IsRemainder-single (product (product a b) c) (times (times a b) c) (times (times b c) a) left
+    let same : carryless_product (carryless_product b c) a ≡ carryless_product (carryless_product a b) c =
+    product_comm (carryless_product b c) a ∙ sym (product_assoc a b c) in
+    IsRemainder-single (carryless_product (carryless_product a b) c) (times (times a b) c) (times (times b c) a) left
     (subst (λ s. IsRemainder s (times (times b c) a)) same right)
     ∙ times_comm (times b c) a
 
@@ -77,7 +77,7 @@ pub times-plus : (a b c : ℕ) → times a (plus b c) ≡ plus (times a b) (time
 times-plus a b c =
     times_from_remainder a (plus b c) (plus (times a b) (times a c))
     (subst (λ s. IsRemainder s (plus (times a b) (times a c))) (sym (product-plus a b c))
-    (IsRemainder-plus (product a b) (product a c) (times a b) (times a c) (times-IsRemainder a b) (times-IsRemainder a c)))
+    (IsRemainder-plus (carryless_product a b) (carryless_product a c) (times a b) (times a c) (times-IsRemainder a b) (times-IsRemainder a c)))
 
 pub plus-times : (a b c : ℕ) → times (plus a b) c ≡ plus (times a c) (times b c)
 plus-times a b c =

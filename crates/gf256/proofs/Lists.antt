@@ -3,9 +3,9 @@ use Rattle.std.proofs.Common.{◌≡◌, ℕ, zero, suc, ◌+◌, ◌-◌, ◌<�
 use Rattle.std.proofs.lemmas.List.{map-set, length-map, take_more, drop_more, get_or-append_right, append_assoc, get_or-drop, set_at, length-take-le, take_all, drop_all, append-nil}
 use Rattle.gf256.specs.declared.Gf.{Gf}
 use Rattle.gf256.specs.Field.{plus, times}
-use Rattle.gf256.specs.Linear.{values, matrix}
+use Rattle.gf256.specs.Linear.{values, matrix, scaled}
 use Rattle.gf256.proofs.FieldLaws.{times-zero, plus-zero}
-use Rattle.gf256.specs.Elimination.{scaled, combined, row_at, entry}
+use Rattle.gf256.specs.Elimination.{plus_multiple, matrix_row, entry}
 
 -- the list `old` with its first i places already as in `new`
 abbrev pub rewritten : {A : Type 0} → ℕ → List A → List A → List A
@@ -43,10 +43,10 @@ get_or-values [] i d within = absurd (omega arith)
 get_or-values (x ∷ xs) zero d within = refl
 get_or-values (x ∷ xs) (suc i) d within = get_or-values xs i d (omega arith)
 
-pub value_at : (xs : List Gf) (i : ℕ) → get_or (values xs) i 0 ≡ (get_or xs i (record { value = 0 })).value
-value_at [] i = refl
-value_at (x ∷ xs) zero = refl
-value_at (x ∷ xs) (suc i) = value_at xs i
+pub at-values : (xs : List Gf) (i : ℕ) → get_or (values xs) i 0 ≡ (get_or xs i (record { value = 0 })).value
+at-values [] i = refl
+at-values (x ∷ xs) zero = refl
+at-values (x ∷ xs) (suc i) = at-values xs i
 
 pub values-set : (xs : List Gf) (i : ℕ) (x : Gf) → values (set xs i x) ≡ set (values xs) i x.value
 values-set xs i x = map-set (λ (y : Gf). y.value) xs i x
@@ -54,30 +54,30 @@ values-set xs i x = map-set (λ (y : Gf). y.value) xs i x
 pub length-matrix : (rows : List (List Gf)) → length (matrix rows) ≡ length rows
 length-matrix rows = length-map rows values
 
-pub row_at-matrix : (rows : List (List Gf)) (i : ℕ) → row_at (matrix rows) i ≡ values (get_or rows i [])
-row_at-matrix [] i = refl
-row_at-matrix (row ∷ rows) zero = refl
-row_at-matrix (row ∷ rows) (suc i) = row_at-matrix rows i
+pub matrix_row-matrix : (rows : List (List Gf)) (i : ℕ) → matrix_row (matrix rows) i ≡ values (get_or rows i [])
+matrix_row-matrix [] i = refl
+matrix_row-matrix (row ∷ rows) zero = refl
+matrix_row-matrix (row ∷ rows) (suc i) = matrix_row-matrix rows i
 
 pub entry-matrix : (rows : List (List Gf)) (i j : ℕ) → entry (matrix rows) i j ≡ (get_or (get_or rows i []) j (record { value = 0 })).value
-entry-matrix rows i j = ap (λ row. get_or row j 0) (row_at-matrix rows i) ∙ value_at (get_or rows i []) j
+entry-matrix rows i j = ap (λ row. get_or row j 0) (matrix_row-matrix rows i) ∙ at-values (get_or rows i []) j
 
 pub matrix-set : (rows : List (List Gf)) (i : ℕ) (row : List Gf) → matrix (set rows i row) ≡ set (matrix rows) i (values row)
 matrix-set rows i row = map-set values rows i row
 
 -- ---- the changed rows
 
-pub length-combined : (xs : List ℕ) (factor : ℕ) (ys : List ℕ) → length xs ≡ length ys → length (combined xs factor ys) ≡ length xs
-length-combined [] factor ys same = refl
-length-combined (x ∷ xs) factor [] same = absurd (omega arith)
-length-combined (x ∷ xs) factor (y ∷ ys) same = ap suc (length-combined xs factor ys (omega arith))
+pub length-plus_multiple : (xs : List ℕ) (factor : ℕ) (ys : List ℕ) → length xs ≡ length ys → length (plus_multiple xs factor ys) ≡ length xs
+length-plus_multiple [] factor ys same = refl
+length-plus_multiple (x ∷ xs) factor [] same = absurd (omega arith)
+length-plus_multiple (x ∷ xs) factor (y ∷ ys) same = ap suc (length-plus_multiple xs factor ys (omega arith))
 
-pub get_or-combined : (xs : List ℕ) (factor : ℕ) (ys : List ℕ) (i : ℕ) → length xs ≡ length ys → get_or (combined xs factor ys) i 0 ≡ plus (get_or xs i 0) (times factor (get_or ys i 0))
-get_or-combined [] factor [] i same = sym (ap (λ s. plus 0 s) (times-zero factor) ∙ plus-zero 0)
-get_or-combined [] factor (y ∷ ys) i same = absurd (omega arith)
-get_or-combined (x ∷ xs) factor [] i same = absurd (omega arith)
-get_or-combined (x ∷ xs) factor (y ∷ ys) zero same = refl
-get_or-combined (x ∷ xs) factor (y ∷ ys) (suc i) same = get_or-combined xs factor ys i (omega arith)
+pub get_or-plus_multiple : (xs : List ℕ) (factor : ℕ) (ys : List ℕ) (i : ℕ) → length xs ≡ length ys → get_or (plus_multiple xs factor ys) i 0 ≡ plus (get_or xs i 0) (times factor (get_or ys i 0))
+get_or-plus_multiple [] factor [] i same = sym (ap (λ s. plus 0 s) (times-zero factor) ∙ plus-zero 0)
+get_or-plus_multiple [] factor (y ∷ ys) i same = absurd (omega arith)
+get_or-plus_multiple (x ∷ xs) factor [] i same = absurd (omega arith)
+get_or-plus_multiple (x ∷ xs) factor (y ∷ ys) zero same = refl
+get_or-plus_multiple (x ∷ xs) factor (y ∷ ys) (suc i) same = get_or-plus_multiple xs factor ys i (omega arith)
 
 pub get_or-scaled : (factor : ℕ) (xs : List ℕ) (i : ℕ) → get_or (scaled factor xs) i 0 ≡ times factor (get_or xs i 0)
 get_or-scaled factor [] i = sym (times-zero factor)

@@ -6,7 +6,7 @@ use Rattle.std.proofs.lemmas.List.Elements.{All-from_get_or}
 use Rattle.gf256.specs.declared.Gf.{Gf}
 use Rattle.gf256.specs.Field.{IsElement, plus, times}
 use Rattle.gf256.specs.Linear.{values, matrix, dot, IsVector, IsNonzero, Annihilates}
-use Rattle.gf256.specs.Elimination.{AreElements, HasElements, row_at, entry, CopiesColumn, SameNullSpace, HasUnitColumns, IsZeroBelow}
+use Rattle.gf256.specs.Elimination.{AreElements, HasElements, matrix_row, entry, CopiesColumn, SameNullSpace, HasUnitColumns, IsZeroBelow}
 use Rattle.gf256.proofs.Lists.{length-values, length-matrix, entry-matrix, values-set}
 use Rattle.gf256.proofs.NullSpaces.{Annihilates-from}
 use Rattle.gf256.proofs.UnitColumns.{unit-same, unit-other}
@@ -53,9 +53,9 @@ pub record EndsAt (c : ℕ) (v : List ℕ) : Type 0 where
   pub one : get_or v c 0 ≡ 1
   pub zeros : (j : ℕ) → c < j → get_or v j 0 ≡ 0
 
-pub unit_row-dot : (c i : ℕ) (m : List (List ℕ)) (v : List ℕ) → HasUnitColumns c m → EndsAt c v → i < length m → i < c → IsElement (get_or v i 0) → IsElement (entry m i c) → dot (row_at m i) v ≡ plus (get_or v i 0) (entry m i c)
+pub unit_row-dot : (c i : ℕ) (m : List (List ℕ)) (v : List ℕ) → HasUnitColumns c m → EndsAt c v → i < length m → i < c → IsElement (get_or v i 0) → IsElement (entry m i c) → dot (matrix_row m i) v ≡ plus (get_or v i 0) (entry m i c)
 unit_row-dot c i m v units ends i_in below v_in e_in =
-    let row = row_at m i in
+    let row = matrix_row m i in
     let others : (j : ℕ) → j ≢ i → j ≢ c → times (get_or row j 0) (get_or v j 0) ≡ 0 = λ j not_i not_c.
     elim (cases_lt j c) as (λ _. times (get_or row j 0) (get_or v j 0) ≡ 0) [
       | inl front ↦ zero_left (get_or row j 0) (get_or v j 0) (units i j i_in front ∙ unit-other i j (λ e. not_i (sym e)))
@@ -66,9 +66,9 @@ unit_row-dot c i m v units ends i_in below v_in e_in =
     (ap (λ s. times s (get_or v i 0)) (units i i i_in below ∙ unit-same i i refl) ∙ one-times (get_or v i 0) v_in)
     (ap (λ s. times (entry m i c) s) ends.one ∙ times-one (entry m i c) e_in)
 
-rest_row-dot : (c i : ℕ) (m : List (List ℕ)) (v : List ℕ) → HasUnitColumns c m → IsZeroBelow c m → EndsAt c v → i < length m → c ≤ i → dot (row_at m i) v ≡ 0
+rest_row-dot : (c i : ℕ) (m : List (List ℕ)) (v : List ℕ) → HasUnitColumns c m → IsZeroBelow c m → EndsAt c v → i < length m → c ≤ i → dot (matrix_row m i) v ≡ 0
 rest_row-dot c i m v units zero_below ends i_in from =
-    let row = row_at m i in
+    let row = matrix_row m i in
     let all : (j : ℕ) → times (get_or row j 0) (get_or v j 0) ≡ 0 = λ j.
     elim (cases_order j c) as (λ _. times (get_or row j 0) (get_or v j 0) ≡ 0) [
       | inl here ↦ zero_left (get_or row j 0) (get_or v j 0) (ap (λ k. get_or row k 0) here ∙ zero_below i from)
@@ -89,7 +89,7 @@ pub record IsColumnVector (c : ℕ) (m : List (List ℕ)) (v : List ℕ) : Type 
 pub IsColumnVector-Annihilates : (c : ℕ) (m : List (List ℕ)) (v : List ℕ) → HasUnitColumns c m → IsZeroBelow c m → (0 < c → HasElements m) → IsColumnVector c m v → Annihilates m v
 IsColumnVector-Annihilates c m v units zero_below elements column =
     Annihilates-from m v (λ i i_in.
-    elim (cases_lt i c) as (λ _. dot (row_at m i) v ≡ 0) [
+    elim (cases_lt i c) as (λ _. dot (matrix_row m i) v ≡ 0) [
       | inl below ↦
           let e_in : IsElement (entry m i c) = elements (omega arith) i c in
           let same : get_or v i 0 ≡ entry m i c = column.front i below in

@@ -7,7 +7,7 @@ use Rattle.std.proofs.lemmas.Bool.{cases_lt}
 use Rattle.std.proofs.lemmas.Nat.Bits.{bit_at-suc, bit_at-zero, bit_at_lowest}
 use Rattle.std.proofs.Math.Arith.{bin_ind, half_le}
 use Rattle.std.proofs.Math.Nat.{pow-suc, le_refl, zero-mul, one-mul, mul-one, mul-zero}
-use Rattle.gf256.specs.Field.{plus, shifted_sum, product}
+use Rattle.gf256.specs.Field.{plus, shifted_sum, carryless_product}
 
 -- ---- the sum
 
@@ -158,50 +158,50 @@ shifted_sum-enough (suc n) (suc k) a b h h' =
     ∙ ap (λ s. plus (b % 2 * a) (2 * s)) (shifted_sum-enough n k a (b / 2) (half_le h) (half_le h'))
     ∙ sym (shifted_sum-front k a b)
 
-pub product-zero : (a : ℕ) → product a 0 ≡ 0
-unfolding product
+pub product-zero : (a : ℕ) → carryless_product a 0 ≡ 0
+unfolding carryless_product
 product-zero a = shifted_sum-zero 0 a
 
 -- with b = x h + c for its constant term c, a b is x (a h) + c a
-pub product-step : (a b : ℕ) → product a b ≡ plus (b % 2 * a) (2 * product a (b / 2))
-unfolding product
+pub product-step : (a b : ℕ) → carryless_product a b ≡ plus (b % 2 * a) (2 * carryless_product a (b / 2))
+unfolding carryless_product
 product-step a zero =
     product-zero a ∙ sym (ap (λ s. plus (0 * a) (2 * s)) (product-zero a) ∙ simp (zero-mul, zero-plus))
 product-step a (suc b) =
     shifted_sum-front b a (suc b)
     ∙ ap (λ s. plus (suc b % 2 * a) (2 * s)) (shifted_sum-enough b (suc b / 2) a (suc b / 2) (half_le (le_refl (suc b))) (le_refl (suc b / 2)))
 
-pub zero-product : (b : ℕ) → product 0 b ≡ 0
+pub zero-product : (b : ℕ) → carryless_product 0 b ≡ 0
 zero-product b =
-    bin_ind (λ n. product 0 n ≡ 0) (product-zero 0)
+    bin_ind (λ n. carryless_product 0 n ≡ 0) (product-zero 0)
     (λ n h. product-step 0 n ∙ ap (λ s. plus (n % 2 * 0) (2 * s)) h ∙ simp (mul-zero, zero-plus)) b
 
-pub product-double : (a b : ℕ) → product a (2 * b) ≡ 2 * product a b
+pub product-double : (a b : ℕ) → carryless_product a (2 * b) ≡ 2 * carryless_product a b
 product-double a b =
     let half : (2 * b) / 2 ≡ b = omega arith in
     let even : (2 * b) % 2 ≡ 0 = omega arith in
-    product-step a (2 * b) ∙ ap₂ (λ k h. plus (k * a) (2 * product a h)) even half ∙ simp (zero-mul, zero-plus)
+    product-step a (2 * b) ∙ ap₂ (λ k h. plus (k * a) (2 * carryless_product a h)) even half ∙ simp (zero-mul, zero-plus)
 
-pub double-product : (a b : ℕ) → product (2 * a) b ≡ 2 * product a b
+pub double-product : (a b : ℕ) → carryless_product (2 * a) b ≡ 2 * carryless_product a b
 double-product a b =
-    bin_ind (λ n. product (2 * a) n ≡ 2 * product a n)
+    bin_ind (λ n. carryless_product (2 * a) n ≡ 2 * carryless_product a n)
     (product-zero (2 * a) ∙ sym (ap (λ s. 2 * s) (product-zero a)))
     (λ n h.
     product-step (2 * a) n
     ∙ ap₂ (λ s t. plus s (2 * t)) (regroup (n % 2) a) h
-    ∙ plus-double (n % 2 * a) (2 * product a (n / 2))
+    ∙ plus-double (n % 2 * a) (2 * carryless_product a (n / 2))
     ∙ ap (λ s. 2 * s) (sym (product-step a n)))
     b
   where
     regroup : (x y : ℕ) → x * (2 * y) ≡ 2 * (x * y)
     regroup x y = omega arith
 
-pub product-one : (a : ℕ) → product a 1 ≡ a
+pub product-one : (a : ℕ) → carryless_product a 1 ≡ a
 product-one a = product-step a 1 ∙ ap (λ s. plus (1 * a) (2 * s)) (product-zero a) ∙ simp (one-mul, plus-zero)
 
-pub one-product : (b : ℕ) → product 1 b ≡ b
+pub one-product : (b : ℕ) → carryless_product 1 b ≡ b
 one-product b =
-    bin_ind (λ n. product 1 n ≡ n) (product-zero 1)
+    bin_ind (λ n. carryless_product 1 n ≡ n) (product-zero 1)
     (λ n h.
     product-step 1 n
     ∙ ap₂ (λ s t. plus s (2 * t)) (mul-one (n % 2)) h
@@ -209,63 +209,63 @@ one-product b =
     ∙ sym (split n))
     b
 
-pub product-plus : (a b c : ℕ) → product a (plus b c) ≡ plus (product a b) (product a c)
+pub product-plus : (a b c : ℕ) → carryless_product a (plus b c) ≡ plus (carryless_product a b) (carryless_product a c)
 product-plus a b =
-    bin_ind (λ n. (c : ℕ) → product a (plus n c) ≡ plus (product a n) (product a c))
-    (λ c. ap (λ s. product a s) (zero-plus c) ∙ sym (ap (λ s. plus s (product a c)) (product-zero a) ∙ zero-plus (product a c)))
+    bin_ind (λ n. (c : ℕ) → carryless_product a (plus n c) ≡ plus (carryless_product a n) (carryless_product a c))
+    (λ c. ap (λ s. carryless_product a s) (zero-plus c) ∙ sym (ap (λ s. plus s (carryless_product a c)) (product-zero a) ∙ zero-plus (carryless_product a c)))
     (λ n h c.
     product-step a (plus n c)
-    ∙ ap₂ (λ s t. plus s (2 * t)) (coefficient-plus n c a) (ap (λ s. product a s) (half-plus n c) ∙ h (c / 2))
-    ∙ ap (λ s. plus (plus (n % 2 * a) (c % 2 * a)) s) (sym (plus-double (product a (n / 2)) (product a (c / 2))))
-    ∙ plus_exchange (n % 2 * a) (c % 2 * a) (2 * product a (n / 2)) (2 * product a (c / 2))
+    ∙ ap₂ (λ s t. plus s (2 * t)) (coefficient-plus n c a) (ap (λ s. carryless_product a s) (half-plus n c) ∙ h (c / 2))
+    ∙ ap (λ s. plus (plus (n % 2 * a) (c % 2 * a)) s) (sym (plus-double (carryless_product a (n / 2)) (carryless_product a (c / 2))))
+    ∙ plus_exchange (n % 2 * a) (c % 2 * a) (2 * carryless_product a (n / 2)) (2 * carryless_product a (c / 2))
     ∙ ap₂ (λ s t. plus s t) (sym (product-step a n)) (sym (product-step a c)))
     b
 
-pub plus-product : (a b c : ℕ) → product (plus a b) c ≡ plus (product a c) (product b c)
+pub plus-product : (a b c : ℕ) → carryless_product (plus a b) c ≡ plus (carryless_product a c) (carryless_product b c)
 plus-product a b c =
-    bin_ind (λ n. product (plus a b) n ≡ plus (product a n) (product b n))
+    bin_ind (λ n. carryless_product (plus a b) n ≡ plus (carryless_product a n) (carryless_product b n))
     (product-zero (plus a b) ∙ sym (ap₂ (λ s t. plus s t) (product-zero a) (product-zero b) ∙ zero-plus 0))
     (λ n h.
     product-step (plus a b) n
     ∙ ap₂ (λ s t. plus s (2 * t)) (coefficient_times-plus n a b) h
-    ∙ ap (λ s. plus (plus (n % 2 * a) (n % 2 * b)) s) (sym (plus-double (product a (n / 2)) (product b (n / 2))))
-    ∙ plus_exchange (n % 2 * a) (n % 2 * b) (2 * product a (n / 2)) (2 * product b (n / 2))
+    ∙ ap (λ s. plus (plus (n % 2 * a) (n % 2 * b)) s) (sym (plus-double (carryless_product a (n / 2)) (carryless_product b (n / 2))))
+    ∙ plus_exchange (n % 2 * a) (n % 2 * b) (2 * carryless_product a (n / 2)) (2 * carryless_product b (n / 2))
     ∙ ap₂ (λ s t. plus s t) (sym (product-step a n)) (sym (product-step b n)))
     c
 
-coefficient-product : (n b : ℕ) → product (n % 2) b ≡ n % 2 * b
+coefficient-product : (n b : ℕ) → carryless_product (n % 2) b ≡ n % 2 * b
 coefficient-product n b =
-    bit_ind (λ k. product k b ≡ k * b) (zero-product b ∙ sym (zero-mul b)) (one-product b ∙ sym (one-mul b)) (n % 2) (omega arith)
+    bit_ind (λ k. carryless_product k b ≡ k * b) (zero-product b ∙ sym (zero-mul b)) (one-product b ∙ sym (one-mul b)) (n % 2) (omega arith)
 
-product-coefficient : (a n b : ℕ) → product a (n % 2 * b) ≡ n % 2 * product a b
+product-coefficient : (a n b : ℕ) → carryless_product a (n % 2 * b) ≡ n % 2 * carryless_product a b
 product-coefficient a n b =
-    bit_ind (λ k. product a (k * b) ≡ k * product a b)
-    (ap (λ s. product a s) (zero-mul b) ∙ product-zero a ∙ sym (zero-mul (product a b)))
-    (ap (λ s. product a s) (one-mul b) ∙ sym (one-mul (product a b)))
+    bit_ind (λ k. carryless_product a (k * b) ≡ k * carryless_product a b)
+    (ap (λ s. carryless_product a s) (zero-mul b) ∙ product-zero a ∙ sym (zero-mul (carryless_product a b)))
+    (ap (λ s. carryless_product a s) (one-mul b) ∙ sym (one-mul (carryless_product a b)))
     (n % 2) (omega arith)
 
-pub product_comm : (a b : ℕ) → product a b ≡ product b a
+pub product_comm : (a b : ℕ) → carryless_product a b ≡ carryless_product b a
 product_comm a b =
-    bin_ind (λ n. product a n ≡ product n a) (product-zero a ∙ sym (zero-product a))
+    bin_ind (λ n. carryless_product a n ≡ carryless_product n a) (product-zero a ∙ sym (zero-product a))
     (λ n h.
     product-step a n
     ∙ ap (λ s. plus (n % 2 * a) (2 * s)) h
-    ∙ plus_comm (n % 2 * a) (2 * product (n / 2) a)
+    ∙ plus_comm (n % 2 * a) (2 * carryless_product (n / 2) a)
     ∙ ap₂ (λ s t. plus s t) (sym (double-product (n / 2) a)) (sym (coefficient-product n a))
     ∙ sym (plus-product (2 * (n / 2)) (n % 2) a)
-    ∙ ap (λ s. product s a) (sym (split n)))
+    ∙ ap (λ s. carryless_product s a) (sym (split n)))
     b
 
-pub product_assoc : (a b c : ℕ) → product (product a b) c ≡ product a (product b c)
+pub product_assoc : (a b c : ℕ) → carryless_product (carryless_product a b) c ≡ carryless_product a (carryless_product b c)
 product_assoc a b c =
-    bin_ind (λ n. product (product a b) n ≡ product a (product b n))
-    (product-zero (product a b) ∙ sym (ap (λ s. product a s) (product-zero b) ∙ product-zero a))
+    bin_ind (λ n. carryless_product (carryless_product a b) n ≡ carryless_product a (carryless_product b n))
+    (product-zero (carryless_product a b) ∙ sym (ap (λ s. carryless_product a s) (product-zero b) ∙ product-zero a))
     (λ n h.
-    product-step (product a b) n
+    product-step (carryless_product a b) n
     ∙ ap₂ (λ s t. plus s (2 * t)) (sym (product-coefficient a n b)) h
-    ∙ ap (λ s. plus (product a (n % 2 * b)) s) (sym (product-double a (product b (n / 2))))
-    ∙ sym (product-plus a (n % 2 * b) (2 * product b (n / 2)))
-    ∙ ap (λ s. product a s) (sym (product-step b n)))
+    ∙ ap (λ s. plus (carryless_product a (n % 2 * b)) s) (sym (product-double a (carryless_product b (n / 2))))
+    ∙ sym (product-plus a (n % 2 * b) (2 * carryless_product b (n / 2)))
+    ∙ ap (λ s. carryless_product a s) (sym (product-step b n)))
     c
 
 -- ---- degrees
@@ -282,20 +282,20 @@ plus_high k a b high low =
     ]
 
 -- a multiple of a polynomial of degree 8 is 0 or has a degree of at least 8
-pub product_high : (m n : ℕ) → 256 ≤ m → m < 512 → n ≢ 0 → 256 ≤ product m n
+pub product_high : (m n : ℕ) → 256 ≤ m → m < 512 → n ≢ 0 → 256 ≤ carryless_product m n
 product_high m n high low =
-    bin_ind (λ k. k ≢ 0 → 256 ≤ product m k) (λ ne. absurd (ne refl))
+    bin_ind (λ k. k ≢ 0 → 256 ≤ carryless_product m k) (λ ne. absurd (ne refl))
     (λ k h ne.
-    elim (cases_lt 0 (k / 2)) as (λ _. 256 ≤ product m k) [
+    elim (cases_lt 0 (k / 2)) as (λ _. 256 ≤ carryless_product m k) [
       | inl positive ↦
-          let rest : 256 ≤ product m (k / 2) = h (omega arith) in
+          let rest : 256 ≤ carryless_product m (k / 2) = h (omega arith) in
           let last : k % 2 * m < 512 = bit_ind (λ c. c * m < 512) (omega arith) (omega arith) (k % 2) (omega arith) in
-          let whole : 512 ≤ plus (2 * product m (k / 2)) (k % 2 * m) = plus_high 9 (2 * product m (k / 2)) (k % 2 * m) (omega arith) last in
-          let same : product m k ≡ plus (2 * product m (k / 2)) (k % 2 * m) = product-step m k ∙ plus_comm (k % 2 * m) (2 * product m (k / 2)) in
+          let whole : 512 ≤ plus (2 * carryless_product m (k / 2)) (k % 2 * m) = plus_high 9 (2 * carryless_product m (k / 2)) (k % 2 * m) (omega arith) last in
+          let same : carryless_product m k ≡ plus (2 * carryless_product m (k / 2)) (k % 2 * m) = product-step m k ∙ plus_comm (k % 2 * m) (2 * carryless_product m (k / 2)) in
           omega arith
       | inr zero_half ↦
           let one : k ≡ 1 = omega arith in
-          let same : product m k ≡ m = ap (λ s. product m s) one ∙ product-one m in
+          let same : carryless_product m k ≡ m = ap (λ s. carryless_product m s) one ∙ product-one m in
           omega arith
     ])
     n

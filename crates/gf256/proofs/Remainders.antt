@@ -6,33 +6,33 @@ use Rattle.std.specs.Int.Bits.{bit_xor}
 use Rattle.std.proofs.lemmas.Nat.{xor_lt, xor_block}
 use Rattle.std.proofs.Math.Arith.{half_le}
 use Rattle.std.proofs.Math.Nat.{le_refl}
-use Rattle.gf256.specs.Field.{IsElement, plus, product, modulus, shift_step, remainder_from, times, alpha}
+use Rattle.gf256.specs.Field.{IsElement, plus, carryless_product, modulus, shift_step, remainder_from, times, alpha}
 use Rattle.gf256.proofs.Polynomials.{plus_comm, plus_assoc, zero-plus, plus_self, plus_below, plus_self_left, plus_exchange, same_from_plus, plus-double, split, zero-product, double-product, one-product, plus-product, product_comm, product_assoc, product_high}
 
 -- r is the remainder of the polynomial p
 pub record IsRemainder (p r : ℕ) : Type 0 where
   pub element : IsElement r
   pub quotient : ℕ
-  pub division : p ≡ plus (product quotient modulus) r
+  pub division : p ≡ plus (carryless_product quotient modulus) r
 
 -- ---- a single one
 
-below_modulus : (q : ℕ) → product q modulus < 256 → q ≡ 0
+below_modulus : (q : ℕ) → carryless_product q modulus < 256 → q ≡ 0
 below_modulus q low =
     elim (cases_lt 0 q) as (λ _. q ≡ 0) [
       | inl positive ↦
           let ne : q ≢ 0 = omega arith in
-          let high : 256 ≤ product modulus q = product_high modulus q (omega arith) (omega arith) ne in
-          let same : product modulus q ≡ product q modulus = product_comm modulus q in
+          let high : 256 ≤ carryless_product modulus q = product_high modulus q (omega arith) (omega arith) ne in
+          let same : carryless_product modulus q ≡ carryless_product q modulus = product_comm modulus q in
           absurd (omega arith)
       | inr none ↦ omega arith
     ]
 
 -- two remainders of one polynomial differ by a multiple of the modulus that has a degree below 8
-IsRemainder-apart : (p r s : ℕ) (h : IsRemainder p r) (k : IsRemainder p s) → product (plus h.quotient k.quotient) modulus ≡ plus r s
+IsRemainder-apart : (p r s : ℕ) (h : IsRemainder p r) (k : IsRemainder p s) → carryless_product (plus h.quotient k.quotient) modulus ≡ plus r s
 IsRemainder-apart p r s h k =
-    let a = product h.quotient modulus in
-    let b = product k.quotient modulus in
+    let a = carryless_product h.quotient modulus in
+    let b = carryless_product k.quotient modulus in
     let sums : plus a r ≡ plus b s = sym h.division ∙ k.division in
     let none : plus (plus a b) (plus r s) ≡ 0 =
     plus_exchange a b r s ∙ ap (λ x. plus x (plus b s)) sums ∙ plus_self (plus b s) in
@@ -43,7 +43,7 @@ IsRemainder-single p r s h k =
     let apart = IsRemainder-apart p r s h k in
     let low : plus r s < 256 = plus_below 8 r s h.element k.element in
     let same_quotient : plus h.quotient k.quotient ≡ 0 = below_modulus (plus h.quotient k.quotient) (omega arith) in
-    same_from_plus r s (sym apart ∙ ap (λ q. product q modulus) same_quotient ∙ zero-product modulus)
+    same_from_plus r s (sym apart ∙ ap (λ q. carryless_product q modulus) same_quotient ∙ zero-product modulus)
 
 -- ---- there is one
 
@@ -57,18 +57,18 @@ IsRemainder-plus p q r s h k = record {
   quotient = plus h.quotient k.quotient;
   division =
       ap₂ (λ x y. plus x y) h.division k.division
-      ∙ plus_exchange (product h.quotient modulus) r (product k.quotient modulus) s
+      ∙ plus_exchange (carryless_product h.quotient modulus) r (carryless_product k.quotient modulus) s
       ∙ ap (λ x. plus x (plus r s)) (sym (plus-product h.quotient k.quotient modulus));
 }
 
 -- what differs from p by a multiple of the modulus has the same remainder
-pub IsRemainder-more : (p q r : ℕ) → IsRemainder p r → IsRemainder (plus (product q modulus) p) r
+pub IsRemainder-more : (p q r : ℕ) → IsRemainder p r → IsRemainder (plus (carryless_product q modulus) p) r
 IsRemainder-more p q r h = record {
   element = h.element;
   quotient = plus q h.quotient;
   division =
-      ap (λ s. plus (product q modulus) s) h.division
-      ∙ sym (plus_assoc (product q modulus) (product h.quotient modulus) r)
+      ap (λ s. plus (carryless_product q modulus) s) h.division
+      ∙ sym (plus_assoc (carryless_product q modulus) (carryless_product h.quotient modulus) r)
       ∙ ap (λ s. plus s r) (sym (plus-product q h.quotient modulus));
 }
 
@@ -108,7 +108,7 @@ double-IsRemainder : (p r : ℕ) → IsRemainder p r → IsRemainder (2 * p) (sh
 double-IsRemainder p r h =
     subst (λ s. IsRemainder s (shift_step r))
     (ap (λ s. plus s (2 * r)) (double-product h.quotient modulus)
-    ∙ plus-double (product h.quotient modulus) r
+    ∙ plus-double (carryless_product h.quotient modulus) r
     ∙ ap (λ s. 2 * s) (sym h.division))
     (IsRemainder-more (2 * r) (2 * h.quotient) (shift_step r) (shift_step-IsRemainder r h.element))
 
@@ -125,28 +125,28 @@ remainder_from-IsRemainder (suc n) p h =
 
 -- ---- the product of the field
 
-pub times-IsRemainder : (a b : ℕ) → IsRemainder (product a b) (times a b)
+pub times-IsRemainder : (a b : ℕ) → IsRemainder (carryless_product a b) (times a b)
 unfolding times
-times-IsRemainder a b = remainder_from-IsRemainder (product a b) (product a b) (le_refl (product a b))
+times-IsRemainder a b = remainder_from-IsRemainder (carryless_product a b) (carryless_product a b) (le_refl (carryless_product a b))
 
 -- whatever is a remainder of the polynomial product is the product of the field
-pub times_from_remainder : (a b c : ℕ) → IsRemainder (product a b) c → times a b ≡ c
-times_from_remainder a b c h = IsRemainder-single (product a b) (times a b) c (times-IsRemainder a b) h
+pub times_from_remainder : (a b c : ℕ) → IsRemainder (carryless_product a b) c → times a b ≡ c
+times_from_remainder a b c h = IsRemainder-single (carryless_product a b) (times a b) c (times-IsRemainder a b) h
 
 -- the remainder of a product of three
-pub times-times-IsRemainder : (a b c : ℕ) → IsRemainder (product (product a b) c) (times (times a b) c)
+pub times-times-IsRemainder : (a b c : ℕ) → IsRemainder (carryless_product (carryless_product a b) c) (times (times a b) c)
 times-times-IsRemainder a b c =
     let h = times-IsRemainder a b in
     let k = times-IsRemainder (times a b) c in
     subst (λ s. IsRemainder s (times (times a b) c))
-    (ap (λ s. plus s (product (times a b) c)) (sym (shift_quotient h.quotient))
-    ∙ sym (plus-product (product h.quotient modulus) (times a b) c)
-    ∙ ap (λ s. product s c) (sym h.division))
-    (IsRemainder-more (product (times a b) c) (product h.quotient c) (times (times a b) c) k)
+    (ap (λ s. plus s (carryless_product (times a b) c)) (sym (shift_quotient h.quotient))
+    ∙ sym (plus-product (carryless_product h.quotient modulus) (times a b) c)
+    ∙ ap (λ s. carryless_product s c) (sym h.division))
+    (IsRemainder-more (carryless_product (times a b) c) (carryless_product h.quotient c) (times (times a b) c) k)
   where
-    shift_quotient : (q : ℕ) → product (product q modulus) c ≡ product (product q c) modulus
+    shift_quotient : (q : ℕ) → carryless_product (carryless_product q modulus) c ≡ carryless_product (carryless_product q c) modulus
     shift_quotient q =
-        product_assoc q modulus c ∙ ap (λ s. product q s) (product_comm modulus c) ∙ sym (product_assoc q c modulus)
+        product_assoc q modulus c ∙ ap (λ s. carryless_product q s) (product_comm modulus c) ∙ sym (product_assoc q c modulus)
 
 -- ---- the element x
 

@@ -5,9 +5,9 @@ use Rattle.std.proofs.lemmas.List.{length-map, get_or-set_same, get_or-set_other
 use Rattle.std.proofs.Math.Nat.{le_refl}
 use Rattle.gf256.specs.declared.Gf.{Gf}
 use Rattle.gf256.specs.Field.{IsElement, plus, times}
-use Rattle.gf256.specs.Linear.{values, matrix}
-use Rattle.gf256.specs.Elimination.{AreElements, scaled, combined, row_at, entry, ClearsColumn}
-use Rattle.gf256.proofs.Lists.{rewritten, rewritten_more, rewritten-all, get_or-rewritten, length-values, get_or-values, values-set, length-combined, get_or-combined, get_or-scaled, length-matrix, row_at-matrix, entry-matrix, matrix-set}
+use Rattle.gf256.specs.Linear.{values, matrix, scaled}
+use Rattle.gf256.specs.Elimination.{AreElements, plus_multiple, matrix_row, entry, ClearsColumn}
+use Rattle.gf256.proofs.Lists.{rewritten, rewritten_more, rewritten-all, get_or-rewritten, length-values, get_or-values, values-set, length-plus_multiple, get_or-plus_multiple, get_or-scaled, length-matrix, matrix_row-matrix, entry-matrix, matrix-set}
 
 -- ---- a row
 
@@ -54,36 +54,36 @@ scaled_all now old factor i past so_far =
     let new_length = length-scaled factor (values old) in
     so_far ∙ rewritten-all (scaled factor (values old)) (values old) i (omega arith) (omega arith)
 
-pub combined_more : (now old other : List Gf) (factor i : ℕ) (d x : Gf) → length now ≡ length old → length old ≡ length other → i < length old → values now ≡ rewritten i (combined (values old) factor (values other)) (values old) → x.value ≡ plus (get_or now i d).value (times factor (get_or other i d).value) → values (set now i x) ≡ rewritten (i + 1) (combined (values old) factor (values other)) (values old)
-combined_more now old other factor i d x same widths within so_far is =
+pub plus_multiple_more : (now old other : List Gf) (factor i : ℕ) (d x : Gf) → length now ≡ length old → length old ≡ length other → i < length old → values now ≡ rewritten i (plus_multiple (values old) factor (values other)) (values old) → x.value ≡ plus (get_or now i d).value (times factor (get_or other i d).value) → values (set now i x) ≡ rewritten (i + 1) (plus_multiple (values old) factor (values other)) (values old)
+plus_multiple_more now old other factor i d x same widths within so_far is =
     let old_length = length-values old in
     let other_length = length-values other in
-    let new : List ℕ = combined (values old) factor (values other) in
-    let new_length : length new ≡ length (values old) = length-combined (values old) factor (values other) (omega arith) in
+    let new : List ℕ = plus_multiple (values old) factor (values other) in
+    let new_length : length new ≡ length (values old) = length-plus_multiple (values old) factor (values other) (omega arith) in
     values-set now i x
     ∙ ap (λ s. set s i x.value) so_far
     ∙ rewritten_more new (values old) i 0 x.value (omega arith) (omega arith)
     (is
     ∙ ap₂ (λ y z. plus y (times factor z)) (value_not_yet now old new i d same (omega arith) within so_far)
     (sym (get_or-values other i d (omega arith)))
-    ∙ sym (get_or-combined (values old) factor (values other) i (omega arith)))
+    ∙ sym (get_or-plus_multiple (values old) factor (values other) i (omega arith)))
 
-pub combined_all : (now old other : List Gf) (factor i : ℕ) → length old ≡ length other → length old ≤ i → values now ≡ rewritten i (combined (values old) factor (values other)) (values old) → values now ≡ combined (values old) factor (values other)
-combined_all now old other factor i widths past so_far =
+pub plus_multiple_all : (now old other : List Gf) (factor i : ℕ) → length old ≡ length other → length old ≤ i → values now ≡ rewritten i (plus_multiple (values old) factor (values other)) (values old) → values now ≡ plus_multiple (values old) factor (values other)
+plus_multiple_all now old other factor i widths past so_far =
     let old_length = length-values old in
     let other_length = length-values other in
-    let new_length : length (combined (values old) factor (values other)) ≡ length (values old) = length-combined (values old) factor (values other) (omega arith) in
-    so_far ∙ rewritten-all (combined (values old) factor (values other)) (values old) i (omega arith) (omega arith)
+    let new_length : length (plus_multiple (values old) factor (values other)) ≡ length (values old) = length-plus_multiple (values old) factor (values other) (omega arith) in
+    so_far ∙ rewritten-all (plus_multiple (values old) factor (values other)) (values old) i (omega arith) (omega arith)
 
 -- ---- the rows
 
 -- the rows before place i are cleared, the others are as they were
 pub record Clearing (column i : ℕ) (old now : List (List ℕ)) : Type 0 where
-  pub pivot : row_at now column ≡ row_at old column
-  pub done : (k : ℕ) → k < i → k ≢ column → row_at now k ≡ combined (row_at old k) (entry old k column) (row_at old column)
-  pub widths : (k : ℕ) → k < i → k ≢ column → length (row_at old k) ≡ length (row_at old column)
-  pub elements : (k : ℕ) → k < i → k ≢ column → AreElements (row_at old k)
-  pub rest : (k : ℕ) → i ≤ k → row_at now k ≡ row_at old k
+  pub pivot : matrix_row now column ≡ matrix_row old column
+  pub done : (k : ℕ) → k < i → k ≢ column → matrix_row now k ≡ plus_multiple (matrix_row old k) (entry old k column) (matrix_row old column)
+  pub widths : (k : ℕ) → k < i → k ≢ column → length (matrix_row old k) ≡ length (matrix_row old column)
+  pub elements : (k : ℕ) → k < i → k ≢ column → AreElements (matrix_row old k)
+  pub rest : (k : ℕ) → i ≤ k → matrix_row now k ≡ matrix_row old k
 
 pub Clearing-none : (column : ℕ) (rows : List (List ℕ)) → Clearing column 0 rows rows
 Clearing-none column rows = record {
@@ -102,34 +102,34 @@ below_more_but P column i below here k h ne =
       | inr elsewhere ↦ below k (omega arith) ne
     ]
 
-Clearing-more_other : (column i : ℕ) (old now : List (List ℕ)) (row : List ℕ) → length now ≡ length old → i < length old → i ≢ column → row ≡ combined (row_at old i) (entry old i column) (row_at old column) → length (row_at old i) ≡ length (row_at old column) → AreElements (row_at old i) → Clearing column i old now → Clearing column (i + 1) old (set now i row)
+Clearing-more_other : (column i : ℕ) (old now : List (List ℕ)) (row : List ℕ) → length now ≡ length old → i < length old → i ≢ column → row ≡ plus_multiple (matrix_row old i) (entry old i column) (matrix_row old column) → length (matrix_row old i) ≡ length (matrix_row old column) → AreElements (matrix_row old i) → Clearing column i old now → Clearing column (i + 1) old (set now i row)
 Clearing-more_other column i old now row same within ne is width elements so_far = record {
   pivot = get_or-set_other now i column row [] (λ e. ne (sym e)) ∙ so_far.pivot;
   done =
-      below_more_but (λ k. row_at (set now i row) k ≡ combined (row_at old k) (entry old k column) (row_at old column)) column i
+      below_more_but (λ k. matrix_row (set now i row) k ≡ plus_multiple (matrix_row old k) (entry old k column) (matrix_row old column)) column i
       (λ k h k_ne. get_or-set_other now i k row [] (omega arith) ∙ so_far.done k h k_ne)
       (get_or-set_same now i row [] (omega arith) ∙ is);
-  widths = below_more_but (λ k. length (row_at old k) ≡ length (row_at old column)) column i so_far.widths width;
-  elements = below_more_but (λ k. AreElements (row_at old k)) column i so_far.elements elements;
+  widths = below_more_but (λ k. length (matrix_row old k) ≡ length (matrix_row old column)) column i so_far.widths width;
+  elements = below_more_but (λ k. AreElements (matrix_row old k)) column i so_far.elements elements;
   rest = λ k h. get_or-set_other now i k row [] (omega arith) ∙ so_far.rest k (omega arith);
 }
 
 -- .. of rows of elements, from what `add_multiple` leaves
-pub Clearing-more_added : (column i : ℕ) (old now : List (List Gf)) (row pivot : List Gf) → length now ≡ length old → i < length old → column < length old → i ≢ column → pivot ≡ get_or old column pivot → length (get_or now i []) ≡ length pivot → AreElements (values (get_or now i [])) → values row ≡ combined (values (get_or now i [])) (get_or (get_or now i []) column (record { value = 0 })).value (values pivot) → Clearing column i (matrix old) (matrix now) → Clearing column (i + 1) (matrix old) (matrix (set now i row))
+pub Clearing-more_added : (column i : ℕ) (old now : List (List Gf)) (row pivot : List Gf) → length now ≡ length old → i < length old → column < length old → i ≢ column → pivot ≡ get_or old column pivot → length (get_or now i []) ≡ length pivot → AreElements (values (get_or now i [])) → values row ≡ plus_multiple (values (get_or now i [])) (get_or (get_or now i []) column (record { value = 0 })).value (values pivot) → Clearing column i (matrix old) (matrix now) → Clearing column (i + 1) (matrix old) (matrix (set now i row))
 Clearing-more_added column i old now row pivot same within below ne pivot_is width elements row_is so_far =
     let old_length = length-matrix old in
     let now_length = length-matrix now in
-    let unchanged : row_at (matrix now) i ≡ row_at (matrix old) i = so_far.rest i (le_refl i) in
-    let pivot_row : values pivot ≡ row_at (matrix old) column =
-    ap values (get_or_read old column pivot below pivot_is []) ∙ sym (row_at-matrix old column) in
-    let this_row : values (get_or now i []) ≡ row_at (matrix old) i = sym (row_at-matrix now i) ∙ unchanged in
+    let unchanged : matrix_row (matrix now) i ≡ matrix_row (matrix old) i = so_far.rest i (le_refl i) in
+    let pivot_row : values pivot ≡ matrix_row (matrix old) column =
+    ap values (get_or_read old column pivot below pivot_is []) ∙ sym (matrix_row-matrix old column) in
+    let this_row : values (get_or now i []) ≡ matrix_row (matrix old) i = sym (matrix_row-matrix now i) ∙ unchanged in
     let factor : (get_or (get_or now i []) column (record { value = 0 })).value ≡ entry (matrix old) i column =
     sym (entry-matrix now i column) ∙ ap (λ r. get_or r column 0) unchanged in
-    let is : values row ≡ combined (row_at (matrix old) i) (entry (matrix old) i column) (row_at (matrix old) column) =
+    let is : values row ≡ plus_multiple (matrix_row (matrix old) i) (entry (matrix old) i column) (matrix_row (matrix old) column) =
     row_is
-    ∙ ap (λ r. combined r (get_or (get_or now i []) column (record { value = 0 })).value (values pivot)) this_row
-    ∙ ap₂ (λ f r. combined (row_at (matrix old) i) f r) factor pivot_row in
-    let same_width : length (row_at (matrix old) i) ≡ length (row_at (matrix old) column) =
+    ∙ ap (λ r. plus_multiple r (get_or (get_or now i []) column (record { value = 0 })).value (values pivot)) this_row
+    ∙ ap₂ (λ f r. plus_multiple (matrix_row (matrix old) i) f r) factor pivot_row in
+    let same_width : length (matrix_row (matrix old) i) ≡ length (matrix_row (matrix old) column) =
     sym (ap (λ (r : List ℕ). length r) this_row) ∙ length-values (get_or now i []) ∙ width ∙ sym (length-values pivot) ∙ ap (λ (r : List ℕ). length r) pivot_row in
     subst (λ rows. Clearing column (i + 1) (matrix old) rows) (sym (matrix-set now i row))
     (Clearing-more_other column i (matrix old) (matrix now) (values row) (omega arith) (omega arith) ne is same_width (subst AreElements this_row elements) so_far)

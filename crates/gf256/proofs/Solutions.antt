@@ -8,7 +8,7 @@ use Rattle.std.specs.List.{range_with_len}
 use Rattle.gf256.specs.Field.{IsElement, plus, times}
 use Rattle.gf256.specs.declared.Gf.{Gf}
 use Rattle.gf256.specs.Linear.{values, matrix, dot, IsVector, Annihilates, square, Solves, IsSingular}
-use Rattle.gf256.specs.Elimination.{HasElements, row_at, entry, CopiesColumn, SameNullSpace, HasUnitColumns, IsZeroBelow}
+use Rattle.gf256.specs.Elimination.{HasElements, matrix_row, entry, CopiesColumn, SameNullSpace, HasUnitColumns, IsZeroBelow}
 use Rattle.gf256.proofs.Lists.{length-values, length-matrix}
 use Rattle.gf256.proofs.NullSpaces.{dot-nil, dot-lt, Annihilates-from}
 use Rattle.gf256.proofs.UnitColumns.{unit, unit-same, unit-other}
@@ -124,7 +124,7 @@ IsSolution-only r n m x y full fits s is_vector annihilated =
 
 -- ---- singular
 
-square_row : (r : ℕ) (rows : List (List ℕ)) (i : ℕ) → i < length (take r rows) → get_or (square r rows) i [] ≡ take r (row_at (take r rows) i)
+square_row : (r : ℕ) (rows : List (List ℕ)) (i : ℕ) → i < length (take r rows) → get_or (square r rows) i [] ≡ take r (matrix_row (take r rows) i)
 square_row r rows i i_in = get_or-map (λ (row : List ℕ). take r row) (take r rows) i [] [] i_in
 
 -- the square part and the whole rows annihilate the same vectors of r places
@@ -133,14 +133,14 @@ square-from r rows v short annihilated =
     let same : length (square r rows) ≡ length (take r rows) = length-map (take r rows) (λ (row : List ℕ). take r row) in
     Annihilates-from (square r rows) v (λ i i_in.
     ap (λ row. dot row v) (square_row r rows i (omega arith))
-    ∙ dot-take r (row_at (take r rows) i) v short
+    ∙ dot-take r (matrix_row (take r rows) i) v short
     ∙ annihilated i [] (omega arith))
 
 from_square : (r : ℕ) (rows : List (List ℕ)) (v : List ℕ) → length v ≤ r → Annihilates (square r rows) v → Annihilates (take r rows) v
 from_square r rows v short annihilated =
     let same : length (square r rows) ≡ length (take r rows) = length-map (take r rows) (λ (row : List ℕ). take r row) in
     Annihilates-from (take r rows) v (λ i i_in.
-    sym (dot-take r (row_at (take r rows) i) v short)
+    sym (dot-take r (matrix_row (take r rows) i) v short)
     ∙ ap (λ row. dot row v) (sym (square_row r rows i i_in))
     ∙ annihilated i [] (omega arith))
 
@@ -154,7 +154,7 @@ HasUnitColumns-regular r old m rows units same s =
     elim (cases_lt k r) as (λ _. get_or y k 0 ≡ 0) [
       | inl below ↦
           let element : IsElement (get_or y k 0) = All-get_or IsElement y k 0 (omega arith) s.is_vector.elements in
-          let row = row_at m k in
+          let row = matrix_row m k in
           let others : (j : ℕ) → j ≢ k → times (get_or row j 0) (get_or y j 0) ≡ 0 = λ j ne.
           elim (cases_lt j r) as (λ _. times (get_or row j 0) (get_or y j 0) ≡ 0) [
             | inl front ↦ zero_left (get_or row j 0) (get_or y j 0) (units k j (omega arith) front ∙ unit-other k j (λ e. ne (sym e)))

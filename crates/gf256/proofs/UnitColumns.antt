@@ -6,9 +6,9 @@ use Rattle.std.proofs.lemmas.List.{get_or-set_same, get_or-set_other, get_or_pas
 use Rattle.std.proofs.lemmas.List.Edits.{swapped_from_swap, length-swap}
 use Rattle.gf256.specs.declared.Gf.{Gf}
 use Rattle.gf256.specs.Field.{IsElement, plus, times, IsProduct}
-use Rattle.gf256.specs.Linear.{matrix, values}
-use Rattle.gf256.specs.Elimination.{AreElements, HasElements, scaled, row_at, entry, ClearsColumn, Eliminates, HasUnitColumns, SameNullSpace}
-use Rattle.gf256.proofs.Lists.{length-matrix, row_at-matrix, entry-matrix, matrix-set, get_or-scaled, get_or-combined}
+use Rattle.gf256.specs.Linear.{matrix, values, scaled}
+use Rattle.gf256.specs.Elimination.{AreElements, HasElements, matrix_row, entry, ClearsColumn, Eliminates, HasUnitColumns, SameNullSpace}
+use Rattle.gf256.proofs.Lists.{length-matrix, matrix_row-matrix, entry-matrix, matrix-set, get_or-scaled, get_or-plus_multiple}
 use Rattle.gf256.proofs.NullSpaces.{Exchanges, Exchanges-SameNullSpace, scaled-SameNullSpace, ClearsColumn-SameNullSpace, SameNullSpace-chain}
 use Rattle.gf256.proofs.FieldLaws.{plus-lt, plus-zero, plus_self, times-lt, times-zero, times-one, times_comm, IsProduct-times, IsProduct-single, one_not_zero}
 
@@ -27,8 +27,8 @@ unit-other i j ne = cond-false (eqb i j) 1 0 (ne_eqb i j ne)
 pub Exchanges-matrix : (a b : ℕ) (old new : List (List Gf)) → a < length old → b < length old → new ≡ swap old a b → Exchanges a b (matrix old) (matrix new)
 Exchanges-matrix a b old new a_in b_in is =
     let swapped = swapped_from_swap old new a b [] a_in b_in is in
-    let row : (i j : ℕ) → get_or new i [] ≡ get_or old j [] → row_at (matrix new) i ≡ row_at (matrix old) j =
-    λ i j e. row_at-matrix new i ∙ ap values e ∙ sym (row_at-matrix old j) in
+    let row : (i j : ℕ) → get_or new i [] ≡ get_or old j [] → matrix_row (matrix new) i ≡ matrix_row (matrix old) j =
+    λ i j e. matrix_row-matrix new i ∙ ap values e ∙ sym (matrix_row-matrix old j) in
     record {
       same_length = length-matrix new ∙ ap (λ (rows : List (List Gf)). length rows) is ∙ length-swap old a b ∙ sym (length-matrix old);
       first = row a b swapped.0;
@@ -51,9 +51,9 @@ Exchanges-HasUnitColumns c b old new from b_in e units = λ i j i_in j_in.
 
 -- ---- the pivot becomes 1
 
-scaled-HasUnitColumns : (rows : List (List ℕ)) (c factor : ℕ) → c < length rows → HasUnitColumns c rows → HasUnitColumns c (set rows c (scaled factor (row_at rows c)))
+scaled-HasUnitColumns : (rows : List (List ℕ)) (c factor : ℕ) → c < length rows → HasUnitColumns c rows → HasUnitColumns c (set rows c (scaled factor (matrix_row rows c)))
 scaled-HasUnitColumns rows c factor c_in units = λ i j i_in j_in.
-    let row = row_at rows c in
+    let row = matrix_row rows c in
     let new = set rows c (scaled factor row) in
     let same : length new ≡ length rows = length-set rows c (scaled factor row) in
     elim (cases_eq i c) as (λ _. entry new i j ≡ unit i j) [
@@ -68,10 +68,10 @@ scaled-HasUnitColumns rows c factor c_in units = λ i j i_in j_in.
           ap (λ r. get_or r j 0) (get_or-set_other rows c i (scaled factor row) [] not_c) ∙ units i j (omega arith) j_in
     ]
 
-scaled-pivot : (rows : List (List ℕ)) (c factor : ℕ) → c < length rows → IsProduct (entry rows c c) factor 1 → entry (set rows c (scaled factor (row_at rows c))) c c ≡ 1
+scaled-pivot : (rows : List (List ℕ)) (c factor : ℕ) → c < length rows → IsProduct (entry rows c c) factor 1 → entry (set rows c (scaled factor (matrix_row rows c))) c c ≡ 1
 scaled-pivot rows c factor c_in product =
-    ap (λ r. get_or r c 0) (get_or-set_same rows c (scaled factor (row_at rows c)) [] c_in)
-    ∙ get_or-scaled factor (row_at rows c) c
+    ap (λ r. get_or r c 0) (get_or-set_same rows c (scaled factor (matrix_row rows c)) [] c_in)
+    ∙ get_or-scaled factor (matrix_row rows c) c
     ∙ times_comm factor (entry rows c c)
     ∙ IsProduct-single (entry rows c c) factor (times (entry rows c c) factor) 1 (IsProduct-times (entry rows c c) factor) product
 
@@ -90,7 +90,7 @@ ClearsColumn-HasUnitColumns c old new c_in clears one units = λ i j i_in j_in.
           ])
       | inr not_c ↦
           ap (λ r. get_or r j 0) (clears.others i (omega arith) not_c)
-          ∙ get_or-combined (row_at old i) (entry old i c) (row_at old c) j (clears.widths i (omega arith) not_c)
+          ∙ get_or-plus_multiple (matrix_row old i) (entry old i c) (matrix_row old c) j (clears.widths i (omega arith) not_c)
           ∙ (elim (cases_eq j c) as (λ _. plus (entry old i j) (times (entry old i c) (entry old c j)) ≡ unit i j) [
             | inl j_at ↦
                 ap (λ k. plus (entry old i k) (times (entry old i c) (entry old c k))) j_at
@@ -115,8 +115,8 @@ pub record EliminatesColumn (c b factor : ℕ) (old swapped new : List (List ℕ
   pub exchanges : Exchanges c b old swapped
   pub factor_in : IsElement factor
   pub product : IsProduct (entry swapped c c) factor 1
-  pub pivot_elements : AreElements (row_at swapped c)
-  pub clears : ClearsColumn c (set swapped c (scaled factor (row_at swapped c))) new
+  pub pivot_elements : AreElements (matrix_row swapped c)
+  pub clears : ClearsColumn c (set swapped c (scaled factor (matrix_row swapped c))) new
 
 factor-ne-zero : (a factor : ℕ) → IsProduct a factor 1 → factor ≢ 0
 factor-ne-zero a factor product e =
@@ -129,8 +129,8 @@ EliminatesColumn-SameNullSpace c b factor old swapped new h =
     let from = h.from in
     let within = h.within in
     let same = h.exchanges.same_length in
-    let scaled_rows = set swapped c (scaled factor (row_at swapped c)) in
-    let scaled_length : length scaled_rows ≡ length swapped = length-set swapped c (scaled factor (row_at swapped c)) in
+    let scaled_rows = set swapped c (scaled factor (matrix_row swapped c)) in
+    let scaled_length : length scaled_rows ≡ length swapped = length-set swapped c (scaled factor (matrix_row swapped c)) in
     SameNullSpace-chain old swapped new
     (Exchanges-SameNullSpace c b old swapped (omega arith) within h.exchanges)
     (SameNullSpace-chain swapped scaled_rows new
@@ -142,24 +142,24 @@ EliminatesColumn-HasUnitColumns c b factor old swapped new h units =
     let from = h.from in
     let within = h.within in
     let same = h.exchanges.same_length in
-    let scaled_rows = set swapped c (scaled factor (row_at swapped c)) in
-    let scaled_length : length scaled_rows ≡ length swapped = length-set swapped c (scaled factor (row_at swapped c)) in
+    let scaled_rows = set swapped c (scaled factor (matrix_row swapped c)) in
+    let scaled_length : length scaled_rows ≡ length swapped = length-set swapped c (scaled factor (matrix_row swapped c)) in
     ClearsColumn-HasUnitColumns c scaled_rows new (omega arith) h.clears
     (scaled-pivot swapped c factor (omega arith) h.product)
     (scaled-HasUnitColumns swapped c factor (omega arith) (Exchanges-HasUnitColumns c b old swapped from within h.exchanges units))
 
-row_past : (rows : List (List ℕ)) (i : ℕ) → length rows ≤ i → AreElements (row_at rows i)
+row_past : (rows : List (List ℕ)) (i : ℕ) → length rows ≤ i → AreElements (matrix_row rows i)
 row_past rows i past =
     subst AreElements (sym (get_or_past rows i [] past)) (λ k. (omega arith))
 
 -- every row was read, so every row holds elements ..
 EliminatesColumn-swapped : (c b factor : ℕ) (old swapped new : List (List ℕ)) → EliminatesColumn c b factor old swapped new → HasElements swapped
 EliminatesColumn-swapped c b factor old swapped new h = λ i.
-    let scaled_row = scaled factor (row_at swapped c) in
+    let scaled_row = scaled factor (matrix_row swapped c) in
     let scaled_length : length (set swapped c scaled_row) ≡ length swapped = length-set swapped c scaled_row in
-    elim (cases_eq i c) as (λ _. AreElements (row_at swapped i)) [
-      | inl at_c ↦ subst (λ k. AreElements (row_at swapped k)) (sym at_c) h.pivot_elements
-      | inr not_c ↦ elim (cases_lt i (length swapped)) as (λ _. AreElements (row_at swapped i)) [
+    elim (cases_eq i c) as (λ _. AreElements (matrix_row swapped i)) [
+      | inl at_c ↦ subst (λ k. AreElements (matrix_row swapped k)) (sym at_c) h.pivot_elements
+      | inr not_c ↦ elim (cases_lt i (length swapped)) as (λ _. AreElements (matrix_row swapped i)) [
         | inl inside ↦ subst AreElements (get_or-set_other swapped c i scaled_row [] not_c) (h.clears.elements i (omega arith) not_c)
         | inr past ↦ row_past swapped i past
       ]
@@ -168,10 +168,10 @@ EliminatesColumn-swapped c b factor old swapped new h = λ i.
 EliminatesColumn-before : (c b factor : ℕ) (old swapped new : List (List ℕ)) → EliminatesColumn c b factor old swapped new → HasElements old
 EliminatesColumn-before c b factor old swapped new h = λ i.
     let elements = EliminatesColumn-swapped c b factor old swapped new h in
-    elim (cases_eq i c) as (λ _. AreElements (row_at old i)) [
-      | inl at_c ↦ subst (λ k. AreElements (row_at old k)) (sym at_c) (subst AreElements h.exchanges.second (elements b))
-      | inr not_c ↦ elim (cases_eq i b) as (λ _. AreElements (row_at old i)) [
-        | inl at_b ↦ subst (λ k. AreElements (row_at old k)) (sym at_b) (subst AreElements h.exchanges.first (elements c))
+    elim (cases_eq i c) as (λ _. AreElements (matrix_row old i)) [
+      | inl at_c ↦ subst (λ k. AreElements (matrix_row old k)) (sym at_c) (subst AreElements h.exchanges.second (elements b))
+      | inr not_c ↦ elim (cases_eq i b) as (λ _. AreElements (matrix_row old i)) [
+        | inl at_b ↦ subst (λ k. AreElements (matrix_row old k)) (sym at_b) (subst AreElements h.exchanges.first (elements c))
         | inr not_b ↦ subst AreElements (h.exchanges.others i not_c not_b) (elements i)
       ]
     ]
@@ -182,20 +182,20 @@ EliminatesColumn-after c b factor old swapped new h = λ i.
     let from = h.from in
     let within = h.within in
     let same = h.exchanges.same_length in
-    let scaled_row = scaled factor (row_at swapped c) in
+    let scaled_row = scaled factor (matrix_row swapped c) in
     let rows = set swapped c scaled_row in
     let rows_length : length rows ≡ length swapped = length-set swapped c scaled_row in
     let new_length = h.clears.same_length in
-    let pivot : AreElements scaled_row = λ k. subst IsElement (sym (get_or-scaled factor (row_at swapped c) k)) (times-lt factor (get_or (row_at swapped c) k 0)) in
-    elim (cases_eq i c) as (λ _. AreElements (row_at new i)) [
+    let pivot : AreElements scaled_row = λ k. subst IsElement (sym (get_or-scaled factor (matrix_row swapped c) k)) (times-lt factor (get_or (matrix_row swapped c) k 0)) in
+    elim (cases_eq i c) as (λ _. AreElements (matrix_row new i)) [
       | inl at_c ↦
-          subst (λ k. AreElements (row_at new k)) (sym at_c)
+          subst (λ k. AreElements (matrix_row new k)) (sym at_c)
           (subst AreElements (sym (h.clears.pivot ∙ get_or-set_same swapped c scaled_row [] (omega arith))) pivot)
-      | inr not_c ↦ elim (cases_lt i (length rows)) as (λ _. AreElements (row_at new i)) [
+      | inr not_c ↦ elim (cases_lt i (length rows)) as (λ _. AreElements (matrix_row new i)) [
         | inl inside ↦
             subst AreElements (sym (h.clears.others i inside not_c))
             (λ k.
-            subst IsElement (sym (get_or-combined (row_at rows i) (entry rows i c) (row_at rows c) k (h.clears.widths i inside not_c)))
+            subst IsElement (sym (get_or-plus_multiple (matrix_row rows i) (entry rows i c) (matrix_row rows c) k (h.clears.widths i inside not_c)))
             (plus-lt (entry rows i k) (times (entry rows i c) (entry rows c k)) (h.clears.elements i inside not_c k) (times-lt (entry rows i c) (entry rows c k))))
         | inr past ↦ row_past new i (omega arith)
       ]
@@ -211,10 +211,10 @@ EliminatesColumn-from c b factor old swapped new row from within is factor_in pr
       exchanges = Exchanges-matrix c b old swapped (omega arith) within is;
       factor_in = factor_in;
       product = subst (λ a. IsProduct a factor 1) (sym (entry-matrix swapped c c)) product;
-      pivot_elements = subst AreElements (sym (row_at-matrix swapped c)) elements;
+      pivot_elements = subst AreElements (sym (matrix_row-matrix swapped c)) elements;
       clears =
           subst (λ rows. ClearsColumn c rows (matrix new))
-          (matrix-set swapped c row ∙ ap (λ r. set (matrix swapped) c r) (row_is ∙ ap (λ r. scaled factor r) (sym (row_at-matrix swapped c))))
+          (matrix-set swapped c row ∙ ap (λ r. set (matrix swapped) c r) (row_is ∙ ap (λ r. scaled factor r) (sym (matrix_row-matrix swapped c))))
           clears;
     }
 

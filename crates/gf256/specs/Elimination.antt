@@ -1,38 +1,34 @@
 -- What the steps of elimination do to a matrix, which is the list of its rows.
-use Rattle.std.specs.Prelude.{◌≡◌, ◌≢◌, ℕ, ◌+◌, ◌<◌, ◌≤◌, ◌↔◌, ◌==◌, if◌then◌else◌, List, [], ◌∷◌, map, length, slice_index, slice_index_or}
+use Rattle.std.specs.Prelude.{◌≡◌, ◌≢◌, ℕ, ◌+◌, ◌<◌, ◌≤◌, ◌↔◌, ◌==◌, if◌then◌else◌, List, [], ◌∷◌, length, slice_index, slice_index_or}
 use Rattle.gf256.specs.Field.{IsElement, plus, times}
 use Rattle.gf256.specs.Linear.{Annihilates}
 
--- a row times a factor
-abbrev pub scaled : ℕ → List ℕ → List ℕ
-scaled factor row = map (λ x. times factor x) row
-
 -- a row plus a multiple of another row of its length
-abbrev pub combined : List ℕ → ℕ → List ℕ → List ℕ
-combined [] factor other = []
-combined (x ∷ xs) factor [] = []
-combined (x ∷ xs) factor (y ∷ ys) = plus x (times factor y) ∷ combined xs factor ys
+abbrev pub plus_multiple : List ℕ → ℕ → List ℕ → List ℕ
+plus_multiple [] factor other = []
+plus_multiple (x ∷ xs) factor [] = []
+plus_multiple (x ∷ xs) factor (y ∷ ys) = plus x (times factor y) ∷ plus_multiple xs factor ys
 
-abbrev pub row_at : List (List ℕ) → ℕ → List ℕ
-row_at rows i = slice_index_or rows i []
+abbrev pub matrix_row : List (List ℕ) → ℕ → List ℕ
+matrix_row rows i = slice_index_or rows i []
 
 abbrev pub entry : List (List ℕ) → ℕ → ℕ → ℕ
-entry rows i j = slice_index (row_at rows i) j
+entry rows i j = slice_index (matrix_row rows i) j
 
 -- each place holds an element; a place past the end counts as 0
 abbrev pub AreElements : List ℕ → Type 0
 AreElements xs = (k : ℕ) → IsElement (slice_index xs k)
 
 abbrev pub HasElements : List (List ℕ) → Type 0
-HasElements rows = (i : ℕ) → AreElements (row_at rows i)
+HasElements rows = (i : ℕ) → AreElements (matrix_row rows i)
 
 -- each other row has taken in the multiple of the row at `column` that its entry there names
 pub record ClearsColumn (column : ℕ) (old new : List (List ℕ)) : Type 0 where
   pub same_length : length new ≡ length old
-  pub pivot : row_at new column ≡ row_at old column
-  pub others : (i : ℕ) → i < length old → i ≢ column → row_at new i ≡ combined (row_at old i) (entry old i column) (row_at old column)
-  pub widths : (i : ℕ) → i < length old → i ≢ column → length (row_at old i) ≡ length (row_at old column)
-  pub elements : (i : ℕ) → i < length old → i ≢ column → AreElements (row_at old i)
+  pub pivot : matrix_row new column ≡ matrix_row old column
+  pub others : (i : ℕ) → i < length old → i ≢ column → matrix_row new i ≡ plus_multiple (matrix_row old i) (entry old i column) (matrix_row old column)
+  pub widths : (i : ℕ) → i < length old → i ≢ column → length (matrix_row old i) ≡ length (matrix_row old column)
+  pub elements : (i : ℕ) → i < length old → i ≢ column → AreElements (matrix_row old i)
 
 -- the two matrices annihilate the same vectors
 abbrev pub SameNullSpace : List (List ℕ) → List (List ℕ) → Type 0

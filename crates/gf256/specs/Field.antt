@@ -17,8 +17,8 @@ shifted_sum zero a b = 0
 shifted_sum (suc n) a b = plus (shifted_sum n a b) (bit_at b n * (2 ^ n * a))
 
 -- the product of two polynomials; the number b has no coefficient 1 at place b or above
-unfoldable pub product : ℕ → ℕ → ℕ
-product a b = shifted_sum b a b
+unfoldable pub carryless_product : ℕ → ℕ → ℕ
+carryless_product a b = shifted_sum b a b
 
 -- x^8 + x^4 + x^3 + x^2 + 1, which is irreducible
 abbrev pub modulus : ℕ
@@ -28,7 +28,7 @@ modulus = 285
 pub record IsProduct (a b c : ℕ) : Type 0 where
   pub element : IsElement c
   pub quotient : ℕ
-  pub division : product a b ≡ plus (product quotient modulus) c
+  pub division : carryless_product a b ≡ plus (carryless_product quotient modulus) c
 
 -- the remainder of x r for an element r: from degree 8 the modulus is taken away once
 unfoldable pub shift_step : ℕ → ℕ
@@ -41,7 +41,7 @@ remainder_from (suc n) p = plus (shift_step (remainder_from n (p / 2))) (p % 2)
 
 -- the one element c with `IsProduct a b c`
 unfoldable pub times : ℕ → ℕ → ℕ
-times a b = let p = product a b in remainder_from p p
+times a b = let p = carryless_product a b in remainder_from p p
 
 -- a to the power n; every element to the power 0 is 1
 unfoldable pub power : ℕ → ℕ → ℕ

@@ -11,6 +11,10 @@ values elements = map (λ element. element.value) elements
 abbrev pub matrix : List (List Gf) → List (List ℕ)
 matrix rows = map values rows
 
+-- a list times a number
+abbrev pub scaled : ℕ → List ℕ → List ℕ
+scaled factor xs = map (times factor) xs
+
 -- the sum of the products place by place, as far as both lists go
 abbrev pub dot : List ℕ → List ℕ → ℕ
 dot [] ys = 0

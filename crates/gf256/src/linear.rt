@@ -1,8 +1,8 @@
 //! Linear systems over the field, by Gauss-Jordan elimination on fixed arrays.
 
 ghost use Rattle.std.specs.Prelude.{◌≡◌, ◌≢◌, ℕ, ◌<◌, ◌≤◌, ◌+◌, length, take, List, IfSome, IfNone, IsNone, ◌↔◌};
-ghost use Rattle.gf256.specs.Linear.{Annihilates, IsNonzero, IsSingular, IsVector, Solves, matrix, values};
-ghost use Rattle.gf256.specs.Elimination.{AreElements, HasElements, scaled, combined, entry, ClearsColumn, CopiesColumn, Eliminates, HasUnitColumns, IsZeroBelow, SameNullSpace};
+ghost use Rattle.gf256.specs.Linear.{Annihilates, IsNonzero, IsSingular, IsVector, Solves, matrix, values, scaled};
+ghost use Rattle.gf256.specs.Elimination.{AreElements, HasElements, plus_multiple, entry, ClearsColumn, CopiesColumn, Eliminates, HasUnitColumns, IsZeroBelow, SameNullSpace};
 
 use crate::Gf;
 
@@ -19,7 +19,7 @@ fn scale(row: &mut [Gf], factor: Gf)
 /// Adds a multiple of another row of the same length.
 fn add_multiple(row: &mut [Gf], factor: Gf, other: &[Gf])
     requires { length row.old ≡ length other.now }
-    ensures sum { values row.new ≡ combined (values row.old) factor.value (values other.now) }
+    ensures sum { values row.new ≡ plus_multiple (values row.old) factor.value (values other.now) }
     ensures elements { AreElements (values row.old) }
 {
     for (i, entry) in row.iter_mut().enumerate() {
@@ -123,8 +123,8 @@ pub fn null_vector(rows: &mut [[Gf; 17]; 16], t: u32) -> [Gf; 17]
 
 /// The one solution of the first `r` equations in `r` unknowns, 0 from place `r` on; `None` exactly
 /// where the square part is singular. Each row holds the coefficients of its equation and then, at
-/// place `r`, its right side. `r` is 1 to 32. The rows are used up as room: what they hold afterwards
-/// is left open.
+/// place `r`, its right side. `r` is 1 to 32. A solution uses the rows up as room: what they hold
+/// afterwards is left open.
 pub fn solve(rows: &mut [[Gf; 33]; 32], r: u32) -> Option<[Gf; 32]>
     requires positive { 1 ≤ r }
     requires fits { r ≤ 32 }
@@ -133,10 +133,13 @@ pub fn solve(rows: &mut [[Gf; 33]; 32], r: u32) -> Option<[Gf; 32]>
     ensures only { IfSome result
         (λ x. (y : List ℕ) → IsVector 32 r y → Solves r (matrix rows.old) y → y ≡ values x) }
     ensures singular { IsNone result ↔ IsSingular r (matrix rows.old) }
+    ensures unchanged { IfNone result (rows.new ≡ rows.old) }
 {
     let unknowns = r as usize;
+    let given = *rows;
     let equations = &mut rows[..unknowns];
     if reduce(equations) < unknowns {
+        *rows = given;
         return None;
     }
     let mut solution = [Gf::ZERO; 32];

@@ -5,11 +5,13 @@ use Rattle.std.proofs.lemmas.List.{take_more, take_more_set, get_or_append_left,
 use Rattle.std.proofs.lemmas.Bool.{cases_lt}
 use Rattle.gf256.specs.Field.{IsElement, plus, times, power, alpha}
 use Rattle.gf256.proofs.FieldLaws.{plus_comm, plus_assoc, plus-zero, zero-plus, plus_self, times-zero, zero-times, one-times, times-plus, plus-times, times_comm, times_assoc, power-add, power-lt}
+use Rattle.gf256.specs.Linear.{scaled}
+use Rattle.gf256.proofs.Lists.{get_or-scaled}
 use Rattle.rs_code.specs.Word.{weighted_sum, IsReedSolomonWord}
-use Rattle.rs_code.specs.Polynomial.{sum_of, scaled, IsBelowDegree}
+use Rattle.rs_code.specs.Polynomial.{sum_of, IsBelowDegree}
 use Rattle.std.proofs.lemmas.List.Elements.{All-append}
 use Rattle.rs_code.proofs.Words.{length-sum_of, weighted_sum-sum_of}
-use Rattle.rs_code.proofs.Locators.{at-sum_of, at-scaled}
+use Rattle.rs_code.proofs.Locators.{at-sum_of}
 use Rattle.rs_code.proofs.Steps.{weighted_sum-push, weighted_sum_more, at_dropped, drop_more_same, bit_xor-plus, same_from_take}
 
 pub weighted_sum-scaled : (a : ℕ) (word : List ℕ) (i : ℕ) → weighted_sum (scaled a word) i ≡ times a (weighted_sum word i)
@@ -109,7 +111,7 @@ raised_more d a k above g now within enough same zeros above_is written =
     let full : length (raised d a g) ≡ d + 1 = length-raised d a g (omega (arith, enough)) in
     let here : get_or (raised d a g) k 0 ≡ plus (get_or g k 0) (times a above) =
     at-sum_of (front ++ 0 ∷ []) (scaled a (1 ∷ front)) k
-    ∙ rw (at-scaled a (1 ∷ front) k, kept_coefficient d k g within (omega (arith, enough)) zeros, above_coefficient d k g within, above_is) refl in
+    ∙ rw (get_or-scaled a (1 ∷ front) k, kept_coefficient d k g within (omega (arith, enough)) zeros, above_coefficient d k g within, above_is) refl in
     take_more_set now k (plus (get_or g k 0) (times a above)) (omega (arith, within, enough, same))
     ∙ rw (written, ← here) refl
     ∙ sym (take_more (raised d a g) k 0 (omega (arith, full, within)))
@@ -164,7 +166,7 @@ at-fed f g register k within =
       get_or_append_left (drop 1 register) (0 ∷ []) 0 k (omega (arith, within, length-drop 1 register)),
       get_or-drop 1 register k 0,
       next,
-      at-scaled f (take (length register) g) k,
+      get_or-scaled f (take (length register) g) k,
       get_or-take (length register) g k 0 (omega (arith, within)),
     )
     refl
@@ -174,7 +176,7 @@ at-fed_last f g register last end =
     at-sum_of (drop 1 register ++ 0 ∷ []) (scaled f (take (length register) g)) last
     ∙ rw (
       get_or_at (drop 1 register) 0 [] 0 last (omega (arith, end, length-drop 1 register)),
-      at-scaled f (take (length register) g) last,
+      get_or-scaled f (take (length register) g) last,
       get_or-take (length register) g last 0 (omega (arith, end)),
     )
     (zero-plus _)

@@ -6,3 +6,9 @@ pub mod Steps
 pub mod Patterns
 pub mod Correction
 pub mod Encoding
+pub mod Division
+pub mod ErrorValues
+pub mod Bytes
+pub mod Registers
+pub mod Remainders
+pub mod Interleaves

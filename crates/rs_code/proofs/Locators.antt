@@ -1,12 +1,14 @@
 -- The locator of the key equation is 0 at the inverses of the points of the errors.
-use Rattle.std.proofs.Common.{◌≡◌, ◌≢◌, ℕ, zero, suc, ◌+◌, ◌-◌, ◌*◌, ◌<◌, ◌≤◌, List, [], ◌∷◌, length, refl, sym, ◌∙◌, ap, arith, subst, ⊎_elim, get_or}
+use Rattle.std.proofs.Common.{ap₂, ◌≡◌, ◌≢◌, ℕ, zero, suc, ◌+◌, ◌-◌, ◌*◌, ◌<◌, ◌≤◌, List, [], ◌∷◌, length, refl, sym, ◌∙◌, ap, arith, subst, ⊎_elim, get_or}
 use Rattle.std.specs.Prelude.{All}
 use Rattle.gf256.specs.Field.{IsElement, plus, times, power, alpha, inverse}
 use Rattle.gf256.proofs.FieldLaws.{plus_exchange, plus-zero, zero-plus, same_from_plus, plus-lt, times-lt, times_comm, times_assoc, times_left_comm, times-zero, zero-times, one-times, times-plus, plus-times, power-zero, power-suc, power-lt, power-add, power-mul, times-inverse, no_zero_divisors, alpha-ne-zero}
+use Rattle.gf256.specs.Linear.{scaled}
+use Rattle.gf256.proofs.Lists.{get_or-scaled}
 use Rattle.rs_code.specs.Word.{weighted_sum, IsNear}
-use Rattle.rs_code.specs.Polynomial.{value_at, sum_of, scaled, product, IsBelowDegree}
+use Rattle.rs_code.specs.Polynomial.{value_at, sum_of, product, IsBelowDegree}
 use Rattle.rs_code.specs.Laws.{AreSums, IsKeyPair, LocatorFindsErrors}
-use Rattle.rs_code.specs.Errors.{weight, moment}
+use Rattle.rs_code.specs.inside.Errors.{weight, moment, turned}
 use Rattle.rs_code.proofs.Moments.{weighed, weighed-zero, weight-weighed, length-weighed, Elements-weighed, Elements, AreZero, vanishing}
 use Rattle.rs_code.proofs.Words.{points, weighted_sum-moment, length-points, Elements-points, points_distinct, elements_of, length-sum_of, weighted_sum-sum_of, Elements-sum_of, differences-weight}
 
@@ -18,19 +20,14 @@ at-sum_of (a ∷ p) [] k = sym (plus-zero (get_or (a ∷ p) k 0))
 at-sum_of (a ∷ p) (b ∷ q) zero = refl
 at-sum_of (a ∷ p) (b ∷ q) (suc k) = at-sum_of p q k
 
-pub at-scaled : (a : ℕ) (q : List ℕ) (k : ℕ) → get_or (scaled a q) k 0 ≡ times a (get_or q k 0)
-at-scaled a [] k = sym (times-zero a)
-at-scaled a (b ∷ q) zero = refl
-at-scaled a (b ∷ q) (suc k) = at-scaled a q k
-
 -- the constant term of a product, and what a further one adds to the coefficients of the higher part
 pub at-product-zero : (a : ℕ) (p q : List ℕ) → get_or (product (a ∷ p) q) 0 0 ≡ times a (get_or q 0 0)
-at-product-zero a p q = at-sum_of (scaled a q) (0 ∷ product p q) 0 ∙ plus-zero _ ∙ at-scaled a q 0
+at-product-zero a p q = at-sum_of (scaled a q) (0 ∷ product p q) 0 ∙ plus-zero _ ∙ get_or-scaled a q 0
 
 pub at-product-suc : (a : ℕ) (p q : List ℕ) (k : ℕ)
     → get_or (product (a ∷ p) q) (suc k) 0 ≡ plus (times a (get_or q (suc k) 0)) (get_or (product p q) k 0)
 at-product-suc a p q k =
-    at-sum_of (scaled a q) (0 ∷ product p q) (suc k) ∙ ap (λ n. plus n (get_or (product p q) k 0)) (at-scaled a q (suc k))
+    at-sum_of (scaled a q) (0 ∷ product p q) (suc k) ∙ ap (λ n. plus n (get_or (product p q) k 0)) (get_or-scaled a q (suc k))
 
 -- the higher part of a polynomial has a degree one lower
 pub higher_degree : (n a : ℕ) (p : List ℕ) → IsBelowDegree (suc n) (a ∷ p) → IsBelowDegree n p
@@ -51,10 +48,6 @@ at-product-none (a ∷ p) q (suc k) none =
 
 -- ---- the coefficients of the product of a polynomial and a list of moments
 
--- x^k p(1/x)
-abbrev pub turned : ℕ → List ℕ → ℕ → ℕ
-turned k p x = times (power x k) (value_at p (inverse x))
-
 -- no point is 0
 abbrev pub AreNonzero : List ℕ → Type 0
 AreNonzero [] = Unit {0}
@@ -65,6 +58,14 @@ cancelled : (x q v : ℕ) → IsElement x → x ≢ 0 → times (times x q) (tim
 cancelled x q v x_in ne =
     rw (times_assoc x q (times (inverse x) v), times_left_comm q (inverse x) v, ← times_assoc x (inverse x) (times q v), times-inverse x x_in ne)
     (one-times (times q v) (times-lt q v))
+
+-- x^(k + 1) (a + v / x)
+pub turned-suc : (k a : ℕ) (p : List ℕ) (x : ℕ) → IsElement x → x ≢ 0 → turned (suc k) (a ∷ p) x ≡ plus (times a (power x (suc k))) (turned k p x)
+turned-suc k a p x x_in ne =
+    let v : ℕ = value_at p (inverse x) in
+    times-plus (power x (suc k)) a (times (inverse x) v)
+    ∙ ap₂ (λ u w. plus u w) (times_comm (power x (suc k)) a)
+    (ap (λ w. times w (times (inverse x) v)) (power-suc x k) ∙ cancelled x (power x k) v x_in ne)
 
 -- y x (a + v / x) with a factor, where v has the power below
 pub turned_term : (y x a v q r : ℕ) → IsElement x → x ≢ 0
@@ -186,13 +187,6 @@ pub Elements-errors_of : (t : ℕ) (received near : List ℕ) → All IsElement 
 Elements-errors_of t received near received_in near_in =
     Elements-sum_of received near (elements_of received received_in) (elements_of near near_in.code_word.elements)
 
--- the sums of the received word are moments of the errors
-pub moment-errors_of : (t : ℕ) (received near : List ℕ) → IsNear t received near → (i : ℕ) → i < 2 * t
-    → weighted_sum received i ≡ moment (errors_of received near) (points (length received)) i
-moment-errors_of t received near near_in i h =
-    sym (weighted_sum-errors_of t received near near_in i h) ∙ weighted_sum-moment (errors_of received near) i
-    ∙ ap (λ n. moment (errors_of received near) (points n) i) (length-errors_of t received near near_in)
-
 pub value_at-lt : (p : List ℕ) (x : ℕ) → Elements p → IsElement (value_at p x)
 value_at-lt [] x p_in = omega arith
 value_at-lt (a ∷ p) x p_in = plus-lt a (times x (value_at p x)) p_in.0 (times-lt x (value_at p x))
@@ -206,21 +200,32 @@ turned_vanishes t n p p_in e =
     ⊎_elim (λ z. absurd (power-ne-zero n t z)) (λ z. z)
     (no_zero_divisors (power (power alpha n) t) (value_at p (inverse (power alpha n))) (power-lt (power alpha n) t) (value_at-lt p (inverse (power alpha n)) p_in) e)
 
--- the errors, each times x^t times the locator at 1/x for its point x, are 0
+-- errors with these sums, each times x^t times the locator at 1/x for its point x, are 0
+pub turned_pattern : (t : ℕ) (sums locator evaluator errors : List ℕ) → length errors ≤ 255 → Elements errors → weight errors ≤ t
+    → AreSums t errors sums → IsKeyPair t sums locator evaluator
+    → AreZero (weighed (turned t locator) errors (points (length errors)))
+turned_pattern t sums locator evaluator errors short errors_in few are_sums pair =
+    let xs : List ℕ = points (length errors) in
+    vanishing t (weighed (turned t locator) errors xs) xs
+    (length-weighed (turned t locator) errors xs) (Elements-weighed (turned t locator) errors xs)
+    (Elements-points (length errors)) (points_distinct (length errors) short)
+    (omega (arith, weight-weighed (turned t locator) errors xs, few))
+    (λ i h. sym (at-product-moments locator sums errors xs t i (t + i) (Elements-points (length errors)) (points_nonzero (length errors))
+    (elements_of locator pair.elements) (λ k above. pair.locator_degree k (omega (arith, above))) refl
+    (λ j below. are_sums j (omega (arith, below, h)) ∙ weighted_sum-moment errors j))
+    ∙ pair.agrees (t + i) (omega (arith, h)) ∙ pair.evaluator_degree (t + i) (omega arith))
+
+-- what differs in the received and the near word vanishes likewise
 pub turned_errors : (t : ℕ) (received near sums locator evaluator : List ℕ)
     → All IsElement received → IsNear t received near → AreSums t received sums → IsKeyPair t sums locator evaluator
     → AreZero (weighed (turned t locator) (errors_of received near) (points (length received)))
 turned_errors t received near sums locator evaluator received_in near_in are_sums pair =
-    let errors : List ℕ = errors_of received near in
-    let xs : List ℕ = points (length received) in
-    vanishing t (weighed (turned t locator) errors xs) xs
-    (length-weighed (turned t locator) errors xs) (Elements-weighed (turned t locator) errors xs)
-    (Elements-points (length received)) (points_distinct (length received) (omega (arith, near_in.code_word.short, near_in.same_length)))
-    (omega (arith, weight-weighed (turned t locator) errors xs, weight-errors_of t received near near_in))
-    (λ i h. sym (at-product-moments locator sums errors xs t i (t + i) (Elements-points (length received)) (points_nonzero (length received))
-    (elements_of locator pair.elements) (λ k above. pair.locator_degree k (omega (arith, above))) refl
-    (λ j below. are_sums j (omega (arith, below, h)) ∙ moment-errors_of t received near near_in j (omega (arith, below, h))))
-    ∙ pair.agrees (t + i) (omega (arith, h)) ∙ pair.evaluator_degree (t + i) (omega arith))
+    let long : length (errors_of received near) ≡ length received = length-errors_of t received near near_in in
+    subst (λ n. AreZero (weighed (turned t locator) (errors_of received near) (points n))) long
+    (turned_pattern t sums locator evaluator (errors_of received near)
+    (omega (arith, long, near_in.code_word.short, near_in.same_length))
+    (Elements-errors_of t received near received_in near_in) (weight-errors_of t received near near_in)
+    (λ i h. are_sums i h ∙ sym (weighted_sum-errors_of t received near near_in i h)) pair)
 
 pub locator_finds_errors : LocatorFindsErrors
 locator_finds_errors t received near sums locator evaluator received_in near_in are_sums pair s within differ =

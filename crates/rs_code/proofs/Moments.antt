@@ -1,9 +1,9 @@
 -- Sums of the form y_1 x_1^i + y_2 x_2^i + .. : where enough of them are 0, all the y are.
-use Rattle.std.proofs.Common.{◌≡◌, ◌≢◌, ℕ, zero, suc, ◌<◌, ◌≤◌, List, [], ◌∷◌, length, refl, sym, ◌∙◌, ap, arith, subst, ⊎_elim}
+use Rattle.std.proofs.Common.{ap₂, ◌≡◌, ◌≢◌, ℕ, zero, suc, ◌<◌, ◌≤◌, List, [], ◌∷◌, length, refl, sym, ◌∙◌, ap, arith, subst, ⊎_elim}
 use Rattle.gf256.specs.Field.{IsElement, plus, times, power}
 use Rattle.gf256.proofs.FieldLaws.{plus_exchange, plus-zero, zero-plus, plus_self, same_from_plus, plus-lt, times-lt, times_assoc, times_left_comm, times-zero, zero-times, times-one, one-times, times-plus, plus-times, power-zero, power-suc, no_zero_divisors}
 use Rattle.rs_code.specs.Polynomial.{value_at}
-use Rattle.rs_code.specs.Errors.{weight, moment, IsApart, AreDistinct}
+use Rattle.rs_code.specs.inside.Errors.{weight, moment, IsApart, AreDistinct}
 
 -- each value times a function of its point
 abbrev pub weighed : (ℕ → ℕ) → List ℕ → List ℕ → List ℕ
@@ -11,12 +11,6 @@ weighed f [] xs = []
 weighed f (y ∷ ys) [] = []
 weighed f (y ∷ ys) (x ∷ xs) = times y (f x) ∷ weighed f ys xs
 
--- the sum of the products of the coefficients of v and the moments from i on
-abbrev pub combined : List ℕ → List ℕ → List ℕ → ℕ → ℕ
-combined [] ys xs i = 0
-combined (c ∷ v) ys xs i = plus (times c (moment ys xs i)) (combined v ys xs (suc i))
-
--- the middle terms of two sums change places
 -- one value weighed by c + x v, at one point
 pub weighed_term : (y c x v p : ℕ) → times (times y (plus c (times x v))) p ≡ plus (times c (times y p)) (times (times y v) (times x p))
 weighed_term y c x v p =
@@ -36,12 +30,6 @@ weighed-zero f none [] xs i = refl
 weighed-zero f none (y ∷ ys) [] i = refl
 weighed-zero f none (y ∷ ys) (x ∷ xs) i =
     rw (none x, times-zero y, zero-times (power x i), weighed-zero f none ys xs i, plus-zero 0) refl
-
--- the moments of the weighed values are sums of the moments of the values
-pub moment-weighed : (v ys xs : List ℕ) (i : ℕ) → moment (weighed (value_at v) ys xs) xs i ≡ combined v ys xs i
-moment-weighed [] ys xs i = weighed-zero (value_at []) (λ x. refl) ys xs i
-moment-weighed (c ∷ v) ys xs i =
-    weighed-cons c v ys xs i ∙ ap (plus (times c (moment ys xs i))) (moment-weighed v ys xs (suc i))
 
 -- ---- lists of elements, of zeros, of points that are apart
 
@@ -76,10 +64,6 @@ zero_unweighed x (y ∷ ys) (z ∷ zs) fits x_in ys_in xs_in apart zeros =
 
 -- ---- the number of values that are not 0
 
-pub weight-cons-le : (y : ℕ) (ys : List ℕ) → weight ys ≤ weight (y ∷ ys)
-weight-cons-le zero ys = omega arith
-weight-cons-le (suc n) ys = omega arith
-
 pub weight-cons-le_suc : (y : ℕ) (ys : List ℕ) → weight (y ∷ ys) ≤ suc (weight ys)
 weight-cons-le_suc zero ys = omega arith
 weight-cons-le_suc (suc n) ys = omega arith
@@ -112,9 +96,15 @@ weighed_vanishes y x ys xs i here next =
     let at_i : moment ys xs i ≡ times y (power x i) = sym (same_from_plus _ _ here) in
     let at_next : moment ys xs (suc i) ≡ times y (times x (power x i)) =
     sym (same_from_plus _ _ next) ∙ ap (times y) (power-suc x i) in
-    moment-weighed (x ∷ 1 ∷ []) ys xs i
-    ∙ rw (at_i, at_next, one-times (times y (times x (power x i))) (times-lt y (times x (power x i))), plus-zero (times y (times x (power x i))), times_left_comm x y (power x i))
-    (plus_self _)
+    let rest : moment (weighed (value_at (1 ∷ [])) ys xs) xs (suc i) ≡ times y (times x (power x i)) =
+    weighed-cons 1 [] ys xs (suc i)
+    ∙ ap₂ (λ u v. plus u v)
+    (ap (times 1) at_next ∙ one-times (times y (times x (power x i))) (times-lt y (times x (power x i))))
+    (weighed-zero (value_at []) (λ z. refl) ys xs (suc (suc i)))
+    ∙ plus-zero (times y (times x (power x i))) in
+    weighed-cons x (1 ∷ []) ys xs i
+    ∙ ap₂ (λ u v. plus u v) (ap (times x) at_i ∙ times_left_comm x y (power x i)) rest
+    ∙ plus_self (times y (times x (power x i)))
 
 -- values at distinct points, of which at most r are not 0, are all 0 where their moments below r are 0
 abbrev pub Vanish : ℕ → Type 0

@@ -1,15 +1,15 @@
 -- A polynomial that is not 0 has at most as many roots as its degree says, and errors at roots alone.
-use Rattle.std.proofs.Common.{◌≡◌, ◌≢◌, ℕ, zero, suc, ◌<◌, ◌≤◌, List, [], ◌∷◌, ◌++◌, length, take, nat_eq, true, false, refl, sym, ◌∙◌, ap, arith, ⊎_elim, get_or, append-nil, length-append}
+use Rattle.std.proofs.Common.{◌+◌, ap₂, ◌≡◌, ◌≢◌, ℕ, zero, suc, ◌<◌, ◌≤◌, List, [], ◌∷◌, ◌++◌, length, take, nat_eq, true, false, refl, sym, ◌∙◌, ap, arith, ⊎_elim, get_or, append-nil, length-append}
 use Rattle.std.proofs.lemmas.List.{map-append}
 use Rattle.std.proofs.lemmas.Bool.Decides.{eqb_tells}
 use Rattle.std.proofs.lemmas.Bool.{cases_lt}
-use Rattle.gf256.specs.Field.{IsElement, plus, times, power, alpha}
-use Rattle.gf256.proofs.FieldLaws.{plus_exchange, plus_comm, plus-zero, zero-plus, plus_self, same_from_plus, plus-lt, times_left_comm, times-zero, times-plus, plus-times, power-lt, no_zero_divisors, alpha_distinct}
-use Rattle.rs_code.specs.Polynomial.{value_at, sum_of, IsBelowDegree}
-use Rattle.rs_code.specs.Errors.{weight, powers, HasRoots, root_exponents, IsRooted, IsApart, AreDistinct, AreBelow}
+use Rattle.gf256.specs.Field.{IsElement, plus, times, power, alpha, inverse}
+use Rattle.gf256.proofs.FieldLaws.{plus_exchange, plus_comm, plus_assoc, times_comm, one-times, power-zero, power-one, power-suc, plus-zero, zero-plus, plus_self, same_from_plus, plus-lt, times_left_comm, times-zero, times-plus, plus-times, power-lt, no_zero_divisors, alpha_distinct}
+use Rattle.rs_code.specs.Polynomial.{value_at, IsBelowDegree}
+use Rattle.rs_code.specs.inside.Errors.{weight, turned, powers, HasRoots, root_exponents, IsRooted, IsApart, AreDistinct, AreBelow}
 use Rattle.rs_code.proofs.Moments.{weighed, Elements, AreZero}
-use Rattle.rs_code.proofs.Words.{points, length-sum_of}
-use Rattle.rs_code.proofs.Locators.{value_at-lt}
+use Rattle.rs_code.proofs.Words.{points}
+use Rattle.rs_code.proofs.Locators.{value_at-lt, value_at-none, higher_degree, turned-suc}
 
 -- ---- the number of roots
 
@@ -200,21 +200,6 @@ weight-IsRooted p (suc n ∷ rest) rooted =
     let root : value_at p (power alpha (length rest)) ≡ 0 = rooted.0 (λ e. cc) in
     rw (root, length-append (root_exponents p (length rest)) (length rest ∷ [])) (omega (arith, weight-IsRooted p rest rooted.1))
 
-pub IsRooted-sum_of : (p u v : List ℕ) → length u ≡ length v → IsRooted p u → IsRooted p v → IsRooted p (sum_of u v)
-IsRooted-sum_of p [] [] same u_rooted v_rooted = tt
-IsRooted-sum_of p [] (y ∷ v) same u_rooted v_rooted = v_rooted
-IsRooted-sum_of p (x ∷ u) [] same u_rooted v_rooted = u_rooted
-IsRooted-sum_of p (zero ∷ u) (y ∷ v) same u_rooted v_rooted =
-    let rest_same : length u ≡ length v = omega (arith, same) in (
-      (λ ne. rw (length-sum_of u v rest_same, rest_same) (v_rooted.0 (λ e. ne (zero-plus y ∙ e)))),
-      IsRooted-sum_of p u v rest_same u_rooted.1 v_rooted.1,
-    )
-IsRooted-sum_of p (suc n ∷ u) (y ∷ v) same u_rooted v_rooted =
-    let rest_same : length u ≡ length v = omega (arith, same) in (
-      (λ ne. rw (length-sum_of u v rest_same) (u_rooted.0 (λ e. cc))),
-      IsRooted-sum_of p u v rest_same u_rooted.1 v_rooted.1,
-    )
-
 -- errors that are 0 once weighed by the polynomial sit at its roots
 pub IsRooted-weighed : (p errors : List ℕ) → Elements p → Elements errors → AreZero (weighed (value_at p) errors (points (length errors))) → IsRooted p errors
 IsRooted-weighed p [] p_in e_in zeros = tt
@@ -223,3 +208,61 @@ IsRooted-weighed p (symbol ∷ rest) p_in e_in zeros = (
       (no_zero_divisors symbol (value_at p (power alpha (length rest))) e_in.0 (value_at-lt p (power alpha (length rest)) p_in) zeros.0)),
   IsRooted-weighed p rest p_in e_in.1 zeros.1,
 )
+
+-- ---- coefficients in turned order
+
+-- two polynomials with the same coefficients
+pub value_at-same : (p q : List ℕ) (x : ℕ) → ((k : ℕ) → get_or p k 0 ≡ get_or q k 0) → value_at p x ≡ value_at q x
+value_at-same [] q x same = sym (value_at-none q x (λ k h. sym (same k)))
+value_at-same (a ∷ p) [] x same = value_at-none (a ∷ p) x (λ k h. same k)
+value_at-same (a ∷ p) (b ∷ q) x same = ap₂ (λ u v. plus u (times x v)) (same 0) (value_at-same p q x (λ k. same (suc k)))
+
+-- the coefficients from place k down to the constant term
+abbrev pub reversal : ℕ → List ℕ → List ℕ
+reversal zero p = get_or p 0 0 ∷ []
+reversal (suc k) p = get_or p (suc k) 0 ∷ reversal k p
+
+pub at-reversal : (k : ℕ) (p : List ℕ) (j i : ℕ) → j + i ≡ k → get_or (reversal k p) j 0 ≡ get_or p i 0
+at-reversal zero p zero i sum = ap (λ n. get_or p n 0) (omega (arith, sum))
+at-reversal zero p (suc j) i sum = absurd (omega (arith, sum))
+at-reversal (suc k) p zero i sum = ap (λ n. get_or p n 0) (omega (arith, sum))
+at-reversal (suc k) p (suc j) i sum = at-reversal k p j i (omega (arith, sum))
+
+pub at-reversal_past : (k : ℕ) (p : List ℕ) (j : ℕ) → k < j → get_or (reversal k p) j 0 ≡ 0
+at-reversal_past zero p zero past = absurd (omega (arith, past))
+at-reversal_past zero p (suc j) past = refl
+at-reversal_past (suc k) p zero past = absurd (omega (arith, past))
+at-reversal_past (suc k) p (suc j) past = at-reversal_past k p j (omega (arith, past))
+
+reversal-more : (k a : ℕ) (p : List ℕ) (x : ℕ) → IsElement x → IsElement a
+    → value_at (reversal (suc k) (a ∷ p)) x ≡ plus (value_at (reversal k p) x) (times a (power x (suc k)))
+reversal-more zero a p x x_in a_in =
+    let first : ℕ = get_or p 0 0 in
+    ap (λ v. plus first (times x (plus a v))) (times-zero x) ∙ ap (λ v. plus first (times x v)) (plus-zero a)
+    ∙ ap₂ (λ u v. plus u v) (sym (ap (plus first) (times-zero x) ∙ plus-zero first))
+    (times_comm x a ∙ ap (times a) (sym (power-one x x_in)))
+reversal-more (suc k) a p x x_in a_in =
+    let top : ℕ = get_or p (suc k) 0 in
+    let v : ℕ = value_at (reversal k p) x in
+    ap (λ u. plus top (times x u)) (reversal-more k a p x x_in a_in)
+    ∙ ap (plus top) (times-plus x v (times a (power x (suc k))))
+    ∙ sym (plus_assoc top (times x v) (times x (times a (power x (suc k)))))
+    ∙ ap (plus (plus top (times x v))) (times_left_comm x a (power x (suc k)) ∙ ap (times a) (sym (power-suc x (suc k))))
+
+reversal-none : (k x : ℕ) → value_at (reversal k []) x ≡ 0
+reversal-none zero x = ap (plus 0) (times-zero x) ∙ plus-zero 0
+reversal-none (suc k) x = ap (λ v. plus 0 (times x v)) (reversal-none k x) ∙ ap (plus 0) (times-zero x) ∙ plus-zero 0
+
+pub value_at-reversal : (k : ℕ) (p : List ℕ) (x : ℕ) → IsElement x → x ≢ 0 → Elements p → IsBelowDegree (suc k) p
+    → value_at (reversal k p) x ≡ turned k p x
+value_at-reversal k [] x x_in ne p_in degree = reversal-none k x ∙ sym (times-zero (power x k))
+value_at-reversal zero (a ∷ p) x x_in ne p_in degree =
+    ap (plus a) (times-zero x) ∙ plus-zero a
+    ∙ sym (ap₂ (λ u v. times u v) (power-zero x)
+    (ap (λ v. plus a (times (inverse x) v)) (value_at-none p (inverse x) (higher_degree 0 a p degree)) ∙ ap (plus a) (times-zero (inverse x)) ∙ plus-zero a)
+    ∙ one-times a p_in.0)
+value_at-reversal (suc k) (a ∷ p) x x_in ne p_in degree =
+    reversal-more k a p x x_in p_in.0
+    ∙ ap (λ u. plus u (times a (power x (suc k)))) (value_at-reversal k p x x_in ne p_in.1 (higher_degree (suc k) a p degree))
+    ∙ plus_comm (turned k p x) (times a (power x (suc k)))
+    ∙ sym (turned-suc k a p x x_in ne)

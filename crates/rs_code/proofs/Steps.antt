@@ -1,20 +1,19 @@
 -- What the loops over a word's weighted sums keep.
-use Rattle.std.proofs.Common.{◌≡◌, ◌≢◌, ℕ, zero, suc, ◌+◌, ◌-◌, ◌*◌, ◌<◌, ◌≤◌, List, [], ◌∷◌, ◌++◌, length, take, drop, set, refl, sym, ◌∙◌, ap, arith, subst, get_or, length-append, add-one, add-zero, zero-add, below_more, get_or-set_other, get_or-set_same, drop-drop, length-set, append-nil, replicate}
-use Rattle.std.proofs.lemmas.List.{take_more, take_more_set, take_all, length-map, length-take-le, map_push, length_push, take-map, drop-map, drop_more, get_or-map, get_or-take, get_or-drop, drop-set-lt}
+use Rattle.std.proofs.Common.{false, ◌≡◌, ◌≢◌, ℕ, zero, suc, ◌+◌, ◌-◌, ◌*◌, ◌<◌, ◌≤◌, List, [], ◌∷◌, ◌++◌, length, take, drop, set, refl, sym, ◌∙◌, ap, arith, get_or, length-append, add-one, add-zero, zero-add, below_more, get_or-set_other, get_or-set_same, drop-drop, length-set, append-nil, replicate}
+use Rattle.std.proofs.lemmas.List.{take_more, take_more_set, take_all, length-map, length-take-le, map_push, length_push, take-map, drop-map, drop_more, get_or-take, get_or-drop, drop-set-lt}
 use Rattle.std.proofs.lemmas.Bool.{ne_eqb}
 use Rattle.std.specs.Prelude.{bit_xor}
 use Rattle.gf256.specs.Field.{IsElement, plus, times, power, alpha}
-use Rattle.gf256.proofs.FieldLaws.{plus_comm, plus_assoc, plus-zero, zero-plus, zero-times, times-one, plus-times, power-mul, times_comm, times_assoc, power-zero, power-suc, power-add}
+use Rattle.gf256.proofs.FieldLaws.{times-zero, times_left_comm, plus_comm, plus_assoc, plus-zero, zero-plus, zero-times, times-one, plus-times, power-mul, times_comm, times_assoc, power-zero, power-suc, power-add}
 use Rattle.rs_code.specs.Word.{weighted_sum}
 use Rattle.rs_code.specs.Polynomial.{sum_of, value_at}
-use Rattle.rs_code.specs.Errors.{weight, moment, powers, HasRoots, IsRooted, AreBelow, AreDistinct, IsEquation, root_exponents}
+use Rattle.rs_code.specs.inside.Errors.{sum_of_terms, weight, every_other, moment, powers, HasRoots, IsRooted, AreBelow, root_exponents}
 use Rattle.gf256.specs.declared.Gf.{Gf}
-use Rattle.gf256.specs.Linear.{values, dot, Solves, square, IsVector, IsNonzero, IsSingular}
-use Rattle.rs_code.proofs.Moments.{AreZero, moment-AreZero, vanishing}
+use Rattle.gf256.specs.Linear.{values, IsVector, IsNonzero}
+use Rattle.rs_code.proofs.Moments.{AreZero, moment-AreZero}
 use Rattle.rs_code.proofs.Locators.{at-sum_of}
-use Rattle.rs_code.proofs.Patterns.{dot-moment}
 use Rattle.rs_code.proofs.Words.{elements_of, points, weighted_sum-moment}
-use Rattle.rs_code.proofs.Roots.{Elements-powers, at_zeros, few_roots, root_exponents_hold, AreRootExponents}
+use Rattle.rs_code.proofs.Roots.{Elements-powers, few_roots, root_exponents_hold, AreRootExponents}
 
 -- a further symbol: Horner's step
 pub weighted_sum-push : (word : List ℕ) (symbol i : ℕ) → IsElement symbol
@@ -92,14 +91,6 @@ weight_more xs i within = rw (take_more xs i 0 within) (weight-append (take i xs
 -- lists that agree in more places than they have are the same
 pub same_from_take : (xs ys : List ℕ) (n : ℕ) → length xs ≤ n → length ys ≤ n → take n xs ≡ take n ys → xs ≡ ys
 same_from_take xs ys n xs_short ys_short e = sym (take_all n xs xs_short) ∙ e ∙ take_all n ys ys_short
-
--- a further row is written in place i
-pub row_more : {X : Type 0} (xs : List X) (P : ℕ → X → Type 0) (i : ℕ) (row d : X) → i < length xs → ((k : ℕ) → k < i → P k (get_or xs k d)) → P i row
-    → (k : ℕ) → k < i + 1 → P k (get_or (set xs i row) k d)
-row_more xs P i row d within before here =
-    below_more _ _
-    (λ k h. let ne : k ≢ i = omega arith in subst (P k) (sym (get_or-set_other xs i k row d ne)) (before k h))
-    (subst (P i) (sym (get_or-set_same xs i row d within)) here)
 
 -- ---- errors are placed
 
@@ -216,41 +207,6 @@ rooted_more p errors exponents n k at value within enough within_exponents place
     (IsRooted-set p front at value (omega (arith, within, long))
     (ap (λ j. value_at p (power alpha j)) there ∙ HasRoots-at p exponents k within_exponents roots) rooted)
 
--- ---- the equations
-
--- what solves the equations has the sums as moments
-pub solved_moments : (exponents sums ys : List ℕ) (rows : List (List ℕ)) → length exponents ≤ length rows
-    → ((k : ℕ) → k < length exponents → IsEquation exponents (get_or sums k 0) k (get_or rows k []))
-    → Solves (length exponents) rows ys
-    → (i : ℕ) → i < length exponents → moment ys (powers exponents) i ≡ get_or sums i 0
-solved_moments exponents sums ys rows enough equations solves i h =
-    let r : ℕ = length exponents in
-    let equation : IsEquation exponents (get_or sums i 0) i (get_or rows i []) = equations i h in
-    let within : i < length (take r rows) = omega (arith, h, enough, length-take-le r rows enough) in
-    let at_i : dot (take r (get_or rows i [])) ys ≡ get_or (get_or rows i []) r 0 =
-    subst (λ row. dot (take r row) ys ≡ get_or row r 0) (get_or-take r rows i [] h) (solves i [] within) in
-    sym (dot-moment exponents ys i) ∙ ap (λ row. dot row ys) (sym equation.left) ∙ at_i ∙ equation.right
-
--- distinct points make the equations regular
-pub not_singular : (exponents sums : List ℕ) (rows : List (List ℕ)) → length exponents ≤ length rows → AreDistinct (powers exponents)
-    → ((k : ℕ) → k < length exponents → IsEquation exponents (get_or sums k 0) k (get_or rows k []))
-    → IsSingular (length exponents) rows → ⊥
-not_singular exponents sums rows enough distinct equations singular =
-    let r : ℕ = length exponents in
-    let v : List ℕ = singular.vector in
-    let moments : (i : ℕ) → i < r → moment v (powers exponents) i ≡ 0 = λ i h.
-    let within_taken : i < length (take r rows) = omega (arith, h, enough, length-take-le r rows enough) in
-    let within : i < length (square r rows) = omega (arith, within_taken, length-map (take r rows) (take {A = ℕ} r)) in
-    let at_i : dot (take r (get_or rows i [])) v ≡ 0 =
-    subst (λ row. dot (take r row) v ≡ 0) (get_or-take r rows i [] h)
-    (subst (λ row. dot row v ≡ 0) (get_or-map (take r) (take r rows) i [] [] within_taken) (singular.annihilated i [] within)) in
-    sym (dot-moment exponents v i) ∙ ap (λ row. dot row v) (sym (equations i h).left) ∙ at_i in
-    let zeros : AreZero v =
-    vanishing r v (powers exponents) (omega (arith, singular.is_vector.full, length-map exponents (power alpha)))
-    (elements_of v singular.is_vector.elements) (Elements-powers exponents) distinct
-    (omega (arith, weight-le v, singular.is_vector.full)) moments in
-    singular.nonzero.1 (at_zeros v singular.nonzero.0 zeros)
-
 -- ---- the values of a polynomial
 
 -- Horner's step, from the highest coefficient down
@@ -258,6 +214,27 @@ pub evaluate_more : (p : List ℕ) (x i value : ℕ) → i < length p → value 
     → plus (times value x) (get_or p i 0) ≡ value_at (drop i p) x
 evaluate_more p x i value within here =
     rw (here, drop_more p i 0 within, times_comm (value_at (drop (i + 1) p) x) x) (plus_comm _ _)
+
+-- the terms of odd degree, two coefficients at a time
+pub odd_last : (p : List ℕ) (i x : ℕ) → length p ≤ i + 1 → value_at (every_other false (drop i p)) x ≡ 0
+odd_last [] zero x end = refl
+odd_last [] (suc i) x end = refl
+odd_last (a ∷ []) zero x end = ap (plus 0) (times-zero x) ∙ plus-zero 0
+odd_last (a ∷ b ∷ p) zero x end = absurd (omega (arith, end))
+odd_last (a ∷ p) (suc i) x end = odd_last p i x (omega (arith, end))
+
+pub odd_more : (p : List ℕ) (i value x : ℕ) → i + 1 < length p → times value x ≡ value_at (every_other false (drop (i + 2) p)) x
+    → times (plus (times value (times x x)) (get_or p (i + 1) 0)) x ≡ value_at (every_other false (drop i p)) x
+odd_more p i value x within here =
+    let b : ℕ = get_or p (i + 1) 0 in
+    let v : ℕ = value_at (every_other false (drop (i + 2) p)) x in
+    let two : drop i p ≡ get_or p i 0 ∷ b ∷ drop (i + 2) p =
+    drop_more p i 0 (omega (arith, within))
+    ∙ ap (λ xs. get_or p i 0 ∷ xs) (drop_more p (i + 1) 0 within ∙ ap (λ n. b ∷ drop n p) (omega arith)) in
+    times_comm (plus (times value (times x x)) b) x
+    ∙ ap (times x) (plus_comm (times value (times x x)) b ∙ ap (plus b) (times_left_comm value x x ∙ ap (times x) here))
+    ∙ sym (zero-plus (times x (plus b (times x v))))
+    ∙ sym (ap (λ q. value_at (every_other false q) x) two)
 
 -- ---- the roots
 
@@ -299,3 +276,32 @@ values-take n elements = sym (take-map (λ g. g.value) n elements)
 
 pub values-drop : (n : ℕ) (elements : List Gf) → values (drop n elements) ≡ drop n (values elements)
 values-drop n elements = sym (drop-map (λ g. g.value) n elements)
+
+-- ---- terms of a sum
+
+pub sum_of_terms-push : (xs : List ℕ) (x : ℕ) → sum_of_terms (xs ++ x ∷ []) ≡ plus (sum_of_terms xs) x
+sum_of_terms-push [] x = plus-zero x ∙ sym (zero-plus x)
+sum_of_terms-push (y ∷ xs) x = ap (plus y) (sum_of_terms-push xs x) ∙ sym (plus_assoc y (sum_of_terms xs) x)
+
+pub sum_of_terms_more : (xs : List ℕ) (k : ℕ) → k < length xs → sum_of_terms (take (k + 1) xs) ≡ plus (sum_of_terms (take k xs)) (get_or xs k 0)
+sum_of_terms_more xs k within = ap sum_of_terms (take_more xs k 0 within) ∙ sum_of_terms-push (take k xs) (get_or xs k 0)
+
+-- errors times the powers i of their points
+pub terms_moment : (terms ys exponents : List ℕ) (i : ℕ) → length exponents ≤ length terms → length exponents ≤ length ys
+    → ((k : ℕ) → k < length exponents → get_or terms k 0 ≡ times (get_or ys k 0) (power (power alpha (get_or exponents k 0)) i))
+    → sum_of_terms (take (length exponents) terms) ≡ moment ys (powers exponents) i
+terms_moment terms ys [] i enough full are = sym (moment-none ys i)
+terms_moment [] ys (n ∷ exponents) i enough full are = absurd (omega (arith, enough))
+terms_moment (x ∷ terms) [] (n ∷ exponents) i enough full are = absurd (omega (arith, full))
+terms_moment (x ∷ terms) (y ∷ ys) (n ∷ exponents) i enough full are =
+    rw (are 0 (omega arith)) (ap (plus (times y (power (power alpha n) i)))
+    (terms_moment terms ys exponents i (omega (arith, enough)) (omega (arith, full)) (λ k h. are (suc k) (omega (arith, h)))))
+
+pub first_term : (y point : ℕ) → IsElement y → y ≡ times y (power point 0)
+first_term y point y_in = sym (ap (times y) (power-zero point) ∙ times-one y y_in)
+
+-- each goes on by its point
+pub next_term : (term next point y i : ℕ) → next ≡ times term point → term ≡ times y (power point i) → next ≡ times y (power point (i + 1))
+next_term term next point y i step is =
+    step ∙ ap (λ v. times v point) is ∙ times_assoc y (power point i) point
+    ∙ ap (times y) (times_comm (power point i) point ∙ sym (power-suc point i) ∙ ap (power point) (omega arith))

@@ -9,7 +9,7 @@ use Rattle.gf256.proofs.FieldLaws.{plus_exchange, plus-zero, plus_self, same_fro
 use Rattle.rs_code.specs.Word.{weighted_sum, IsReedSolomonWord, differences}
 use Rattle.rs_code.specs.Polynomial.{sum_of}
 use Rattle.rs_code.specs.Laws.{WordsAreFarApart, NearIsSingle}
-use Rattle.rs_code.specs.Errors.{weight, moment, IsApart, AreDistinct}
+use Rattle.rs_code.specs.inside.Errors.{weight, moment, IsApart, AreDistinct}
 use Rattle.rs_code.proofs.Moments.{Elements, AreZero, weight-cons_nonzero, vanishing}
 
 -- the points of the symbols of a word of n symbols: the powers of alpha from n - 1 down to 0

@@ -1,7 +1,8 @@
 -- Polynomials over the field, as the lists of their coefficients from the constant term on. Places past
 -- the end of a list are 0.
-use Rattle.std.specs.Prelude.{◌≡◌, ℕ, ◌≤◌, List, [], ◌∷◌, map, slice_index}
+use Rattle.std.specs.Prelude.{◌≡◌, ℕ, ◌≤◌, List, [], ◌∷◌, slice_index}
 use Rattle.gf256.specs.Field.{plus, times}
+use Rattle.gf256.specs.Linear.{scaled}
 
 -- the value at x
 abbrev pub value_at : List ℕ → ℕ → ℕ
@@ -13,10 +14,6 @@ abbrev pub sum_of : List ℕ → List ℕ → List ℕ
 sum_of [] q = q
 sum_of (a ∷ p) [] = a ∷ p
 sum_of (a ∷ p) (b ∷ q) = plus a b ∷ sum_of p q
-
--- the product with a number
-abbrev pub scaled : ℕ → List ℕ → List ℕ
-scaled a q = map (times a) q
 
 -- the product: the constant term times q, and x times the product of the higher part and q
 abbrev pub product : List ℕ → List ℕ → List ℕ

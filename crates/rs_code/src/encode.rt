@@ -13,7 +13,8 @@ use gf256::Gf;
 /// x^(2t - 1) down to the constant term.
 pub fn generator(t: u32) -> [Gf; 32]
     requires { t ≤ 16 }
-    ensures { (i : ℕ) → i < 2 * t → weighted_sum (take (2 * t) (values result)) i ≡ power alpha (2 * t * i) }
+    ensures zeros { IsBelowDegree (2 * t) (values result) }
+    ensures roots { (i : ℕ) → i < 2 * t → weighted_sum (take (2 * t) (values result)) i ≡ power alpha (2 * t * i) }
 {
     let mut product = [Gf::ZERO; 32];
     let mut root = Gf::ONE;

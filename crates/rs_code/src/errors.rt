@@ -1,15 +1,16 @@
-//! The errors of a received word, found from its weighted sums: a polynomial that is 0 at the points
-//! of the wrong symbols, its roots, and the values there.
+//! The errors of a word, found from its weighted sums: the places at the roots of the locator, and the
+//! values there by the evaluator.
 
-ghost use Rattle.std.specs.Prelude.{◌≡◌, ℕ, ◌+◌, ◌*◌, ◌<◌, ◌≤◌, List, length, take, drop, map, slice_index, All};
-ghost use Rattle.gf256.specs.Field.{IsElement, power, alpha};
-ghost use Rattle.gf256.specs.Linear.{values, dot, IsVector, IsNonzero};
+ghost use Rattle.std.specs.Prelude.{◌≡◌, ◌≢◌, ℕ, ◌+◌, ◌*◌, ◌<◌, ◌≤◌, ◌↔◌, List, length, take, slice_index, All, false, IsTrue, IfSome, IfNone};
+ghost use Rattle.gf256.specs.Field.{IsElement, power, alpha, inverse, times};
+ghost use Rattle.gf256.specs.Linear.{values, IsVector, IsNonzero};
 ghost use Rattle.rs_code.specs.Word.{weighted_sum};
-ghost use Rattle.rs_code.specs.Polynomial.{value_at};
-ghost use Rattle.rs_code.specs.Errors.{IsErrorPattern, IsEquation, weight, moment, powers, AreDistinct, AreBelow, HasRoots, IsRooted, root_exponents};
+ghost use Rattle.rs_code.specs.Polynomial.{value_at, IsBelowDegree};
+ghost use Rattle.rs_code.specs.inside.Errors.{IsErrorPattern, sum_of_terms, moment, powers, turned, every_other, IsErrorValue, AreBelow, HasRoots, IsRooted, root_exponents};
 
 use crate::ALPHA;
-use gf256::{Gf, null_vector, solve};
+use crate::key_equation::{KeyPair, key_pair};
+use gf256::Gf;
 
 /// The exponents of the powers of alpha at which a polynomial is 0, in rising order.
 #[derive(Clone, Copy)]
@@ -18,50 +19,43 @@ struct Roots {
     count: usize,
 }
 
-/// The one error pattern of at most t symbols that a word of this length with these sums can have;
-/// it is 0 past the length.
-pub fn find_errors(sums: &[Gf; 32], t: u32, symbols: usize) -> [u8; 255]
+/// The one error pattern of at most t symbols that a word of this length with these sums can have, in
+/// the first places of the answer; `None` where there is none.
+pub fn find_errors(sums: &[Gf; 32], t: u32, symbols: usize) -> Option<[u8; 255]>
     requires least { 1 ≤ t }
     requires most { t ≤ 16 }
     requires short { symbols ≤ 255 }
-    ensures symbols { length (take symbols result) ≡ symbols }
-    ensures few { weight (take symbols result) ≤ t }
-    ensures only { (errors : List ℕ) → IsErrorPattern t symbols (values sums.now) errors → take symbols result ≡ errors }
+    ensures pattern { IfSome result (λ errors. IsErrorPattern t symbols (values sums.now) (take symbols errors)) }
+    ensures none { IfNone result ((errors : List ℕ) → IsErrorPattern t symbols (values sums.now) errors → ⊥) }
 {
-    let locator = annihilator(sums, t);
-    let roots = find_roots(&locator, t, symbols);
+    let pair = key_pair(sums, t);
+    let polynomial = turned(&pair.locator, t);
+    let roots = find_roots(&polynomial, t, symbols);
     let exponents = &roots.exponents[..roots.count];
-    let values = error_values(exponents, sums);
-    place_errors(exponents, &values, symbols)
+    let values = error_values(exponents, &pair);
+    if !have_sums(exponents, &values, sums, t) {
+        return None;
+    }
+    Some(place_errors(exponents, &values, symbols))
 }
 
-/// The coefficients, from the constant term on, of a polynomial of degree at most t that is 0 at the
-/// points of up to t errors with these sums: it annihilates the t + 1 sums from each of the first t
-/// places on. It is the error locator read from its highest coefficient down.
-fn annihilator(sums: &[Gf; 32], t: u32) -> [Gf; 17]
-    requires least { 1 ≤ t }
+/// The polynomial x^t p(1/x) of a polynomial p of degree at most t: its coefficients in turned order. It
+/// is 0 at the points of the errors where the locator is 0 at their inverses.
+fn turned(polynomial: &[Gf; 17], t: u32) -> [Gf; 17]
     requires most { t ≤ 16 }
+    requires elements { All IsElement (values polynomial.now) }
+    requires degree { IsBelowDegree (t + 1) (values polynomial.now) }
+    requires nonzero { IsNonzero (values polynomial.now) }
     ensures vector { IsVector 17 (t + 1) (values result) }
     ensures nonzero { IsNonzero (values result) }
-    ensures annihilated { (i : ℕ) → i < t → dot (take 17 (drop i (values sums.now))) (values result) ≡ 0 }
+    ensures value { (x : ℕ) → IsElement x → x ≢ 0 → value_at (values result) x ≡ turned t (values polynomial.now) x }
 {
-    let mut rows = [[Gf::ZERO; 17]; 16];
-    for i in 0..16 {
-        rows[i] = window(sums, i);
+    let last = t as usize;
+    let mut turned = [Gf::ZERO; 17];
+    for k in 0..last + 1 {
+        turned[k] = polynomial[last - k];
     }
-    null_vector(&mut rows, t)
-}
-
-/// The 17 sums from place i on.
-fn window(sums: &[Gf; 32], i: usize) -> [Gf; 17]
-    requires { i < 16 }
-    ensures { result ≡ take 17 (drop i sums.now) }
-{
-    let mut row = [Gf::ZERO; 17];
-    for j in 0..17 {
-        row[j] = sums[i + j];
-    }
-    row
+    turned
 }
 
 /// The roots of a polynomial of degree at most t among the points of a word's symbols.
@@ -73,11 +67,12 @@ fn find_roots(polynomial: &[Gf; 17], t: u32, symbols: usize) -> Roots
     ensures few { result.count ≤ t }
     ensures exponents { take result.count result.exponents ≡ root_exponents (values polynomial.now) symbols }
 {
+    let coefficients = &polynomial[..t as usize + 1];
     let mut exponents = [0; 16];
     let mut count = 0;
     let mut point = Gf::ONE;
     for n in 0..symbols {
-        if evaluate(polynomial, point).value == 0 {
+        if evaluate(coefficients, point).value == 0 {
             exponents[count] = n as u8;
             count += 1;
         }
@@ -87,53 +82,113 @@ fn find_roots(polynomial: &[Gf; 17], t: u32, symbols: usize) -> Roots
 }
 
 /// The value of a polynomial at a point, by Horner's rule.
-fn evaluate(polynomial: &[Gf; 17], point: Gf) -> Gf
+fn evaluate(polynomial: &[Gf], point: Gf) -> Gf
     ensures { result.value ≡ value_at (values polynomial.now) point.value }
 {
     let mut value = Gf::ZERO;
-    for k in 0..17 {
-        value = value.mul(point).add(polynomial[16 - k]);
+    for k in 0..polynomial.len() {
+        value = value.mul(point).add(polynomial[polynomial.len() - 1 - k]);
     }
     value
 }
 
-/// The values of the errors at distinct points, from as many sums.
-fn error_values(exponents: &[u8], sums: &[Gf; 32]) -> [Gf; 32]
-    requires few { length exponents.now ≤ 16 }
-    requires distinct { AreDistinct (powers exponents.now) }
-    ensures { (i : ℕ) → i < length exponents.now → moment (values result) (powers exponents.now) i ≡ slice_index (values sums.now) i }
+/// The values of the errors at the points with these exponents.
+fn error_values(exponents: &[u8], pair: &KeyPair) -> [Gf; 16]
+    requires { length exponents.now ≤ 16 }
+    ensures right { (k : ℕ) → k < length exponents.now
+        → IsErrorValue (values pair.now.locator) (values pair.now.evaluator) (slice_index exponents.now k) (slice_index (values result) k) }
+    ensures elements { All IsElement (values result) }
 {
-    if exponents.is_empty() {
-        return [Gf::ZERO; 32];
+    let mut values = [Gf::ZERO; 16];
+    for k in 0..exponents.len() {
+        values[k] = error_value(pair, exponents[k]);
     }
-    let mut rows = [[Gf::ZERO; 33]; 32];
-    for i in 0..exponents.len() {
-        rows[i] = equation(exponents, i as u32, sums[i]);
-    }
-    match solve(&mut rows, exponents.len() as u32) {
-        Some(solution) => solution,
-        None => unreachable!(),
-    }
+    values
 }
 
-/// The equation of sum i in the values of the errors: the powers i of their points, and the sum
-/// behind them.
-fn equation(exponents: &[u8], i: u32, sum: Gf) -> [Gf; 33]
-    requires few { length exponents.now ≤ 16 }
-    requires small { i < 16 }
-    ensures { IsEquation exponents.now sum.value i (values result) }
+/// The evaluator at the inverse of an error's point, divided by the odd part of the locator there, which
+/// is x times its derivative (Forney); 0 at a double root.
+fn error_value(pair: &KeyPair, exponent: u8) -> Gf
+    ensures right { IsErrorValue (values pair.now.locator) (values pair.now.evaluator) exponent result.value }
+    ensures element { IsElement result.value }
 {
-    let mut row = [Gf::ZERO; 33];
-    for k in 0..exponents.len() {
-        row[k] = ALPHA.pow(exponents[k] as u32 * i);
+    let at = ALPHA.pow(exponent as u32).inv();
+    let slope = odd_part(&pair.locator, at);
+    if slope.value == 0 {
+        return Gf::ZERO;
     }
-    row[exponents.len()] = sum;
-    row
+    evaluate(&pair.evaluator, at).mul(slope.inv())
+}
+
+/// The value of the terms of odd degree at a point, by Horner's rule in its square.
+fn odd_part(polynomial: &[Gf; 17], point: Gf) -> Gf
+    ensures value { result.value ≡ value_at (every_other false (values polynomial.now)) point.value }
+    ensures element { IsElement result.value }
+{
+    let square = point.mul(point);
+    let mut value = Gf::ZERO;
+    for k in 0..8 {
+        value = value.mul(square).add(polynomial[15 - 2 * k]);
+    }
+    value.mul(point)
+}
+
+/// Whether errors of these values at the points with these exponents have the first 2t sums.
+fn have_sums(exponents: &[u8], error_values: &[Gf; 16], sums: &[Gf; 32], t: u32) -> bool
+    requires few { length exponents.now ≤ 16 }
+    requires most { t ≤ 16 }
+    requires elements { All IsElement (values error_values.now) }
+    ensures { IsTrue result ↔ ((i : ℕ) → i < 2 * t → moment (values error_values.now) (powers exponents.now) i ≡ slice_index (values sums.now) i) }
+{
+    let points = points_of(exponents);
+    let mut terms = *error_values;
+    for i in 0..2 * t as usize {
+        if sum_of_first(&terms, exponents.len()).value != sums[i].value {
+            return false;
+        }
+        multiply_first(&mut terms, exponents.len(), &points);
+    }
+    true
+}
+
+/// The powers of alpha with these exponents, and 0 behind them.
+fn points_of(exponents: &[u8]) -> [Gf; 16]
+    requires { length exponents.now ≤ 16 }
+    ensures { (k : ℕ) → k < length exponents.now → slice_index (values result) k ≡ power alpha (slice_index exponents.now k) }
+{
+    let mut points = [Gf::ZERO; 16];
+    for k in 0..exponents.len() {
+        points[k] = ALPHA.pow(exponents[k] as u32);
+    }
+    points
+}
+
+/// The sum of the first terms.
+fn sum_of_first(terms: &[Gf; 16], count: usize) -> Gf
+    requires { count ≤ 16 }
+    ensures { result.value ≡ sum_of_terms (take count (values terms.now)) }
+{
+    let mut sum = Gf::ZERO;
+    for k in 0..count {
+        sum = sum.add(terms[k]);
+    }
+    sum
+}
+
+/// Multiplies each of the first terms by its point.
+fn multiply_first(terms: &mut [Gf; 16], count: usize, points: &[Gf; 16])
+    requires { count ≤ 16 }
+    ensures { (k : ℕ) → k < count
+        → slice_index (values terms.new) k ≡ times (slice_index (values terms.old) k) (slice_index (values points.now) k) }
+{
+    for k in 0..count {
+        terms[k] = terms[k].mul(points[k]);
+    }
 }
 
 /// The errors of a word of this length: each value at the symbol whose point is the power of alpha
 /// with its exponent. It is 0 elsewhere and past the length.
-fn place_errors(exponents: &[u8], error_values: &[Gf; 32], symbols: usize) -> [u8; 255]
+fn place_errors(exponents: &[u8], error_values: &[Gf; 16], symbols: usize) -> [u8; 255]
     requires few { length exponents.now ≤ 16 }
     requires short { symbols ≤ 255 }
     requires within { AreBelow symbols exponents.now }

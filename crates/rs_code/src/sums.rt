@@ -1,11 +1,11 @@
 //! The weighted sums of a word, which are 0 for a word of the code.
 
-ghost use Rattle.std.specs.Prelude.{◌≡◌, ◌↔◌, ℕ, ◌≤◌, length, IsTrue, All};
-ghost use Rattle.gf256.specs.Field.{IsElement, power, alpha};
+ghost use Rattle.std.specs.Prelude.{◌≡◌, ℕ, ◌<◌, ◌≤◌, length, slice_index, All};
+ghost use Rattle.gf256.specs.Field.{IsElement, plus, times, power, alpha};
 ghost use Rattle.gf256.specs.Linear.{values};
 ghost use Rattle.rs_code.specs.Word.{weighted_sum};
 ghost use Rattle.rs_code.specs.Laws.{AreSums};
-ghost use Rattle.rs_code.specs.Errors.{weight};
+ghost use Rattle.rs_code.specs.inside.Errors.{weight};
 ghost use Rattle.rs_code.specs.Polynomial.{sum_of};
 
 use crate::ALPHA;
@@ -14,55 +14,58 @@ use gf256::Gf;
 /// The first 2t weighted sums of a received word, its syndromes, sum i in place i.
 pub fn syndromes(word: &[u8], t: u32) -> [Gf; 32]
     requires { t ≤ 16 }
-    ensures { AreSums t word.now (values result) }
+    ensures sums { AreSums t word.now (values result) }
+    ensures elements { All IsElement word.now }
 {
+    let points = first_powers();
     let mut sums = [Gf::ZERO; 32];
-    let mut point = Gf::ONE;
-    for i in 0..2 * t as usize {
-        sums[i] = sum_at(word, point);
-        point = point.mul(ALPHA);
+    for symbol in word {
+        take_symbol(&mut sums, 2 * t as usize, &points, *symbol);
     }
     sums
 }
 
-/// Whether these are the first 2t weighted sums of the word.
-pub fn has_sums(word: &[u8], t: u32, sums: &[Gf; 32]) -> bool
-    requires { t ≤ 16 }
-    ensures agree { IsTrue result ↔ AreSums t word.now (values sums.now) }
-    ensures elements { All IsElement word.now }
+/// Takes a further symbol into each of the first sums, by Horner's rule at its point.
+fn take_symbol(sums: &mut [Gf; 32], count: usize, points: &[Gf; 32], symbol: u8)
+    requires few { count ≤ 32 }
+    requires points { (i : ℕ) → i < 32 → slice_index (values points.now) i ≡ power alpha i }
+    ensures { (i : ℕ) → i < count
+        → slice_index (values sums.new) i ≡ plus (times (slice_index (values sums.old) i) (power alpha i)) symbol }
 {
-    let mut point = Gf::ONE;
-    for i in 0..2 * t as usize {
-        if sum_at(word, point).value != sums[i].value {
-            return false;
-        }
-        point = point.mul(ALPHA);
+    for i in 0..count {
+        sums[i] = sums[i].mul(points[i]).add(Gf { value: symbol });
     }
-    true
 }
 
-/// The word's polynomial at a power of alpha, by Horner's rule.
-fn sum_at(word: &[u8], point: Gf) -> Gf
-    ensures { (i : ℕ) → point.value ≡ power alpha i → result.value ≡ weighted_sum word.now i }
+/// The powers of alpha from alpha^0 on.
+fn first_powers() -> [Gf; 32]
+    ensures { (i : ℕ) → i < 32 → slice_index (values result) i ≡ power alpha i }
 {
-    let mut sum = Gf::ZERO;
-    for symbol in word {
-        sum = sum.mul(point).add(Gf { value: *symbol });
+    let mut powers = [Gf::ONE; 32];
+    for i in 1..32 {
+        powers[i] = powers[i - 1].mul(ALPHA);
     }
-    sum
+    powers
 }
 
-/// Adds the errors to a word of the same length, and counts those that are not 0.
-pub fn add_errors(word: &mut [u8], errors: &[u8]) -> u32
-    requires same_length { length errors.now ≡ length word.old }
-    requires short { length word.old ≤ 255 }
-    ensures sum { word.new ≡ sum_of word.old errors.now }
-    ensures count { result ≡ weight errors.now }
+/// Adds symbols to as many others, place by place.
+pub fn add_symbols(word: &mut [u8], others: &[u8])
+    requires { length others.now ≡ length word.old }
+    ensures { word.new ≡ sum_of word.old others.now }
+{
+    for i in 0..word.len() {
+        word[i] ^= others[i];
+    }
+}
+
+/// The number of errors that are not 0.
+pub fn count_errors(errors: &[u8]) -> u32
+    requires { length errors.now ≤ 255 }
+    ensures { result ≡ weight errors.now }
 {
     let mut count = 0;
-    for i in 0..word.len() {
-        word[i] ^= errors[i];
-        if errors[i] != 0 {
+    for error in errors {
+        if *error != 0 {
             count += 1;
         }
     }

@@ -32,7 +32,7 @@ loop-symbol-preserved c =
           let Root : ℕ → Type 0 = λ m. weighted_sum (take m g) i ≡ power alpha (m * i) in
           let Fed : ℕ → Type 0 = λ m.
           weighted_sum c.feed.new.register i ≡ plus (times (weighted_sum c.loop-symbol.out i) (power alpha i)) (times symbol (power alpha (m * i))) in
-          subst Fed n (c.feed.ensures i (subst Root (sym n) (c.generator-generator.ensures i h))));
+          subst Fed n (c.feed.ensures i (subst Root (sym n) (c.generator-generator.ensures.roots i h))));
     }
 
 pub returns : goal.returns

@@ -1,5 +1,4 @@
-use Rattle.gf256.specs.Linear.{values}
-use Rattle.gf256.specs.Elimination.{scaled}
+use Rattle.gf256.specs.Linear.{values, scaled}
 use Rattle.gf256.proofs.RowSteps.{scaled_more, scaled_all, length-scaled, element_more, elements_all}
 use Rattle.gf256.proofs.linear.scale.Goals as goal
 

@@ -1,7 +1,6 @@
 use Rattle.std.proofs.Common.{◌≡◌, ◌<◌, ℕ, slice_index}
 use Rattle.gf256.specs.Field.{IsElement}
-use Rattle.gf256.specs.Linear.{values}
-use Rattle.gf256.specs.Elimination.{scaled}
+use Rattle.gf256.specs.Linear.{values, scaled}
 use Rattle.gf256.proofs.Lists.{rewritten}
 use Rattle.gf256.proofs.linear.scale.Given as goal
 

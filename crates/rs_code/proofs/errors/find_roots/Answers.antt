@@ -1,13 +1,20 @@
-use Rattle.std.proofs.Common.{◌≡◌, ◌+◌, ◌∙◌, ℕ, List, length, length-set, sym, ap, refl, arith}
+use Rattle.std.proofs.Common.{◌≡◌, ◌+◌, ◌∙◌, ℕ, List, take, length, length-set, sym, ap, refl, arith}
 use Rattle.std.proofs.lemmas.List.{length_push}
 use Rattle.gf256.specs.Field.{power, alpha}
-use Rattle.gf256.specs.Linear.{values}
+use Rattle.gf256.specs.declared.Gf.{Gf}
+use Rattle.gf256.specs.Linear.{values, IsVector}
 use Rattle.rs_code.specs.Polynomial.{value_at}
-use Rattle.rs_code.specs.Errors.{root_exponents}
+use Rattle.rs_code.specs.inside.Errors.{root_exponents}
 use Rattle.gf256.proofs.FieldLaws.{power-zero}
-use Rattle.rs_code.proofs.Steps.{next_point, roots_few, root_room, root_exponents-root, root_exponents-none, root_kept}
+use Rattle.rs_code.proofs.Roots.{value_at-take}
+use Rattle.rs_code.proofs.Steps.{values-take, next_point, roots_few, root_room, root_exponents-root, root_exponents-none, root_kept}
 use Rattle.rs_code.proofs.errors.find_roots.Goals as goal
 use Rattle.rs_code.proofs.errors.find_roots.Goals.{then-evaluate-eq0, else-evaluate-eq0}
+
+-- the coefficients past place t are 0 and are left out
+leading : (polynomial : List Gf) (t x : ℕ) → IsVector 17 (t + 1) (values polynomial) → value_at (values (take (t + 1) polynomial)) x ≡ value_at (values polynomial) x
+leading polynomial t x vector =
+    ap (λ p. value_at p x) (values-take (t + 1) polynomial) ∙ value_at-take (t + 1) (values polynomial) x vector.zeros
 
 pub loop-n-init : goal.loop-n-init
 loop-n-init c = record { full = refl; point_is = sym (power-zero alpha); counted = refl; found = refl }
@@ -16,14 +23,14 @@ loop-n-init c = record { full = refl; point_is = sym (power-zero alpha); counted
 pub bounds-exponents-count : goal.bounds-exponents-count
 bounds-exponents-count c =
     root_room c.args.t c.loop-n.n c.loop-n.count (values c.args.polynomial.now) (omega arith) c.requires.most c.requires.vector c.requires.nonzero
-    (ap (value_at (values c.args.polynomial.now)) (sym c.loop-n.invariant.point_is) ∙ sym c.evaluate.ensures ∙ c.if-evaluate-eq0.true)
+    (ap (value_at (values c.args.polynomial.now)) (sym c.loop-n.invariant.point_is) ∙ sym (c.evaluate.ensures ∙ leading c.args.polynomial.now c.args.t c.loop-n.point.value c.requires.vector) ∙ c.if-evaluate-eq0.true)
     c.loop-n.invariant.counted
 
 pub loop-n-preserved : goal.loop-n-preserved
 loop-n-preserved c =
     let p : List ℕ = values c.args.polynomial.now in
     let here : value_at p (power alpha c.loop-n.n) ≡ c.evaluate.result.value =
-    ap (value_at p) (sym c.loop-n.invariant.point_is) ∙ sym c.evaluate.ensures in
+    ap (value_at p) (sym c.loop-n.invariant.point_is) ∙ sym (c.evaluate.ensures ∙ leading c.args.polynomial.now c.args.t c.loop-n.point.value c.requires.vector) in
     let point_is : c.mul-point.result.value ≡ power alpha (c.loop-n.n + 1) =
     next_point _ _ c.loop-n.n c.loop-n.invariant.point_is c.mul-point.ensures.value in
     elim c.if-evaluate-eq0.branch [

@@ -1,7 +1,7 @@
 use Rattle.std.proofs.Common.{◌≡◌, take, length}
 use Rattle.gf256.specs.Field.{power, alpha}
 use Rattle.gf256.specs.Linear.{values}
-use Rattle.rs_code.specs.Errors.{root_exponents}
+use Rattle.rs_code.specs.inside.Errors.{root_exponents}
 use Rattle.rs_code.proofs.errors.find_roots.Given as goal
 
 abbrev pub invariant-loop-n : goal.invariant-loop-n

@@ -3,7 +3,7 @@ use Rattle.std.specs.Prelude.{All}
 use Rattle.gf256.specs.Field.{IsElement}
 use Rattle.gf256.specs.Linear.{values}
 use Rattle.rs_code.specs.Word.{weighted_sum}
-use Rattle.rs_code.specs.Errors.{moment, powers, HasRoots, IsRooted}
+use Rattle.rs_code.specs.inside.Errors.{moment, powers, HasRoots, IsRooted}
 use Rattle.rs_code.proofs.errors.place_errors.Given as goal
 
 abbrev pub invariant-loop-k : goal.invariant-loop-k

@@ -1,23 +1,31 @@
-use Rattle.std.proofs.Common.{◌≡◌, ◌∙◌, ℕ, sym, subst, List, get_or, length, ◌<◌, ◌+◌, arith, refl, length-set}
-use Rattle.std.proofs.lemmas.List.{map-set, length-map}
-use Rattle.gf256.specs.Field.{alpha}
+use Rattle.std.proofs.Common.{◌∙◌, ℕ, sym, refl, ap, arith, replicate, subst, ◌≡◌, ◌*◌, ◌<◌, get_or}
+use Rattle.std.proofs.lemmas.List.{take_all}
+use Rattle.std.proofs.lemmas.List.Elements.{All-from_get_or}
+use Rattle.gf256.specs.Field.{IsElement, plus, times, power, alpha}
 use Rattle.gf256.specs.Linear.{values}
 use Rattle.rs_code.specs.Word.{weighted_sum}
-use Rattle.gf256.proofs.FieldLaws.{power-zero}
-use Rattle.rs_code.proofs.Steps.{next_point, written_more}
+use Rattle.rs_code.proofs.Roots.{at_zeros}
+use Rattle.rs_code.proofs.Steps.{weighted_sum_more, zeros_replicate}
 use Rattle.rs_code.proofs.sums.syndromes.Goals as goal
 
-pub loop-i-init : goal.loop-i-init
-loop-i-init c = record { full = refl; point_is = sym (power-zero alpha); agree = λ k h. absurd (omega (arith, h)) }
+pub loop-symbol-init : goal.loop-symbol-init
+loop-symbol-init c = record { full = refl; taken = λ i h. at_zeros (replicate 32 0) i (zeros_replicate 32) }
 
-pub loop-i-preserved : goal.loop-i-preserved
-loop-i-preserved c = record {
-  full = length-set c.loop-i.sums c.loop-i.i c.sum_at.result ∙ c.loop-i.invariant.full;
-  point_is = next_point _ _ c.loop-i.i c.loop-i.invariant.point_is c.mul-point.ensures.value;
-  agree =
-      let within : c.loop-i.i < length (values c.loop-i.sums) = omega (arith, length-map c.loop-i.sums (λ g. g.value)) in
-      let P : List ℕ → Type 0 = λ xs. (k : ℕ) → k < c.loop-i.i + 1 → get_or xs k 0 ≡ weighted_sum c.args.word.now k in
-      subst P (sym (map-set (λ g. g.value) c.loop-i.sums c.loop-i.i c.sum_at.result))
-      (written_more (values c.loop-i.sums) (weighted_sum c.args.word.now) c.loop-i.i c.sum_at.result.value within c.loop-i.invariant.agree
-      (c.sum_at.ensures c.loop-i.i c.loop-i.invariant.point_is));
+pub loop-symbol-preserved : goal.loop-symbol-preserved
+loop-symbol-preserved c = record {
+  full = c.take_symbol.array_long;
+  taken = λ i h.
+      let k : ℕ = c.loop-symbol.symbol-index in
+      let symbol_in : IsElement (get_or c.args.word.now k 0) = omega (arith, c.type_inv.word k) in
+      c.take_symbol.ensures i h
+      ∙ ap (λ v. plus (times v (power alpha i)) (get_or c.args.word.now k 0)) (c.loop-symbol.invariant.taken i h)
+      ∙ sym (weighted_sum_more c.args.word.now k i c.loop-symbol-test.true symbol_in);
 }
+
+pub returns-clause-sums : goal.returns-clause-sums
+returns-clause-sums c =
+    subst (λ xs. (i : ℕ) → i < 2 * c.args.t → get_or (values c.loop-symbol.sums) i 0 ≡ weighted_sum xs i)
+    (take_all c.loop-symbol.symbol-index c.args.word.now (omega (arith, c.loop-symbol-test.false))) c.loop-symbol.invariant.taken
+
+pub returns-clause-elements : goal.returns-clause-elements
+returns-clause-elements c = All-from_get_or IsElement c.args.word.now 0 (λ i h. omega (arith, c.type_inv.word i))

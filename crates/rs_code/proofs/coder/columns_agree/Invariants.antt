@@ -1,0 +1,8 @@
+use Rattle.std.proofs.Common.{◌≡◌, ℕ, ◌+◌, ◌*◌, ◌<◌, get_or, []}
+use Rattle.rs_code.proofs.coder.columns_agree.Given as goal
+
+abbrev pub invariant-loop-k : goal.invariant-loop-k
+invariant-loop-k l = (j w : ℕ) → w < l.many → j < l.k → get_or l.given (j * l.many + w) 0 ≡ get_or (get_or l.rows w []) j 0
+
+abbrev pub invariant-loop-v : goal.invariant-loop-v
+invariant-loop-v l = (w : ℕ) → w < l.v → get_or l.given (l.k * l.many + w) 0 ≡ get_or (get_or l.rows w []) l.k 0

@@ -1,0 +1,9 @@
+use Rattle.std.proofs.Common.{◌∙◌, ◌-◌, replicate, arith}
+use Rattle.gf256.proofs.Lists.{values-set}
+use Rattle.rs_code.proofs.Division.{power_written}
+use Rattle.rs_code.proofs.key_equation.power.Goals as goal
+
+pub returns-clause-power : goal.returns-clause-power
+returns-clause-power c =
+    values-set (replicate 33 (record { value = 0 })) c.args.n (record { value = 1 })
+    ∙ power_written c.args.n (32 - c.args.n) 33 (omega (arith, c.requires))

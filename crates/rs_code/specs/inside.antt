@@ -1,0 +1,3 @@
+pub mod Errors
+pub mod Division
+pub mod Register

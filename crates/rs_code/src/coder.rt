@@ -1,0 +1,344 @@
+//! Encoding and correction of many words with the same number of check symbols, by tables.
+
+ghost use Rattle.std.specs.Prelude.{◌≡◌, ℕ, ◌+◌, ◌*◌, ◌<◌, ◌≤◌, ◌↔◌, List, ◌++◌, drop, length, replicate, take, All, IsTrue, IfOk, IsOk, OnErr, OnOk, ◌%◌, ◌/◌, [], slice_index, slice_index_or};
+ghost use Rattle.std.specs.Int.{w128, to_be_bytes};
+ghost use Rattle.gf256.specs.Field.{IsElement};
+ghost use Rattle.gf256.specs.Linear.{scaled, values};
+ghost use Rattle.rs_code.specs.Polynomial.{IsBelowDegree};
+ghost use Rattle.rs_code.specs.Word.{IsReedSolomonWord, IsNear, differences, weighted_sum};
+ghost use Rattle.rs_code.specs.Remainder.{IsRemainder};
+ghost use Rattle.rs_code.specs.Interleave.{interleave};
+ghost use Rattle.rs_code.specs.inside.Register.{AreRows, IsRest, register, narrow_step, wide_step, wide_step_behind};
+
+use crate::encode::generator;
+use crate::sums::{add_symbols, syndromes};
+use crate::{TooFar, repair};
+use gf256::Gf;
+use std::marker::Model;
+
+/// The tables for words with 2t check symbols: for each symbol, its multiple of the generator polynomial
+/// below the leading coefficient. A multiple is a row of 32 coefficients, from that of x^(2t - 1) down,
+/// the first in the top byte of `high`, the last in the lowest of `low`.
+#[derive(Drop)]
+pub struct Coder {
+    t: u32,
+    high: [u128; 256],
+    low: [u128; 256],
+}
+
+impl Model for Coder {
+    ghost Value = { ℕ };
+
+    ghost view = { λ c. c.t };
+
+    ghost invariant = { λ c. AreRows c.t c.high c.low };
+}
+
+impl Coder {
+    /// The tables for words that are corrected up to t symbols. `t` is 1 to 16.
+    pub fn new(t: u32) -> Coder
+        requires least { 1 ≤ t }
+        requires most { t ≤ 16 }
+        ensures { result ≡ t }
+    {
+        let generator = generator(t);
+        let mut high = [0; 256];
+        let mut low = [0; 256];
+        for f in 0..256 {
+            let row = multiple(&generator, Gf { value: f as u8 });
+            high[f] = packed(&row[..16]);
+            low[f] = packed(&row[16..]);
+        }
+        Coder { t, high, low }
+    }
+
+    /// Writes the 2t check symbols that make a word of the code behind the symbols.
+    pub fn parity(&self, symbols: &[u8], out: &mut [u8])
+        requires room { length out.old ≡ 2 * self.now }
+        requires short { length symbols.now + length out.old ≤ 255 }
+        ensures { IsReedSolomonWord self.now (symbols.now ++ out.new) }
+    {
+        let checks = self.check_symbols(symbols);
+        out.copy_from_slice(&checks[..out.len()]);
+    }
+
+    /// `parity` of several interleaves side by side: symbol s of interleave v stands at place
+    /// s * many + v, in the symbols and in the check symbols behind them.
+    pub fn interleaved_parity(&self, symbols: &[u8], many: usize, out: &mut [u8])
+        requires some { 1 ≤ many }
+        requires few { many ≤ 16 }
+        requires whole { length symbols.now % many ≡ 0 }
+        requires room { length out.old ≡ 2 * self.now * many }
+        requires short { length symbols.now + length out.old ≤ 255 * many }
+        ensures { (v : ℕ) → v < many → IsReedSolomonWord self.now (interleave many v (symbols.now ++ out.new)) }
+    {
+        let checks = self.interleaved_checks(symbols, many);
+        put_columns(&checks, many, out);
+    }
+
+    /// Whether several words side by side are all words of the code: symbol s of word v stands at place
+    /// s * many + v.
+    pub fn are_code_words(&self, words: &[u8], many: usize) -> bool
+        requires some { 1 ≤ many }
+        requires few { many ≤ 16 }
+        requires whole { length words.now % many ≡ 0 }
+        requires long { 2 * self.now * many ≤ length words.now }
+        requires short { length words.now ≤ 255 * many }
+        ensures { IsTrue result ↔ ((v : ℕ) → v < many → IsReedSolomonWord self.now (interleave many v words.now)) }
+    {
+        let checks = 2 * self.t as usize * many;
+        let (front, given) = words.split_at(words.len() - checks);
+        columns_agree(&self.interleaved_checks(front, many), many, given)
+    }
+
+    /// The check symbols of each interleave, with zeros behind them.
+    fn interleaved_checks(&self, symbols: &[u8], many: usize) -> [[u8; 32]; 16]
+        requires some { 1 ≤ many }
+        requires few { many ≤ 16 }
+        ensures rests { (v : ℕ) → v < many → IsRest self.now (interleave many v symbols.now) (slice_index_or result v []) }
+        ensures most { self.now ≤ 16 }
+    {
+        if self.t <= 8 {
+            let high = narrow_rests(&self.high, symbols, many);
+            all_symbols(&high, &[0; 16])
+        } else {
+            let (high, low) = wide_rests(&self.high, &self.low, symbols, many);
+            all_symbols(&high, &low)
+        }
+    }
+
+    /// The remainder of a word by the generator polynomial, from the coefficient of x^(2t - 1) down, and
+    /// zeros behind it.
+    pub fn remainder(&self, word: &[u8]) -> [u8; 32]
+        requires { 2 * self.now ≤ length word.now }
+        ensures remainder { IsRemainder self.now word.now (take (2 * self.now) result) }
+        ensures zeros { IsBelowDegree (2 * self.now) result }
+        ensures elements { All IsElement word.now }
+        ensures most { self.now ≤ 16 }
+    {
+        let checks = 2 * self.t as usize;
+        let (front, given) = word.split_at(word.len() - checks);
+        let mut rest = self.check_symbols(front);
+        add_symbols(&mut rest[..checks], given);
+        rest
+    }
+
+    /// Whether a word is one of the code: its remainder is 0.
+    pub fn is_code_word(&self, word: &[u8]) -> bool
+        requires long { 2 * self.now ≤ length word.now }
+        requires short { length word.now ≤ 255 }
+        ensures { IsTrue result ↔ IsReedSolomonWord self.now word.now }
+    {
+        self.remainder(word) == [0; 32]
+    }
+
+    /// Corrects up to t wrong symbols of a received word, and answers how many it changed.
+    pub fn correct(&self, word: &mut [u8]) -> Result<u32, TooFar>
+        requires long { 2 * self.now < length word.old }
+        requires short { length word.old ≤ 255 }
+        ensures near { OnOk result (IsNear self.now word.old word.new) }
+        ensures count { IfOk result (λ changed. changed ≡ differences word.old word.new) }
+        ensures found { (near : List ℕ) → IsNear self.now word.old near → IsOk result }
+        ensures becomes { (near : List ℕ) → IsNear self.now word.old near → word.new ≡ near }
+        ensures too_far { OnErr result ((near : List ℕ) → IsNear self.now word.old near → ⊥) }
+        ensures unchanged { OnErr result (word.new ≡ word.old) }
+    {
+        let rest = self.remainder(word);
+        if rest == [0; 32] {
+            return Ok(0);
+        }
+        let sums = syndromes(&rest[..2 * self.t as usize], self.t);
+        repair(word, self.t, &sums)
+    }
+
+    /// Twice t check symbols of a word, and zeros behind them.
+    fn check_symbols(&self, symbols: &[u8]) -> [u8; 32]
+        ensures rest { IsRest self.now symbols.now result }
+        ensures most { self.now ≤ 16 }
+    {
+        if self.t <= 8 {
+            let high = narrow_rest(&self.high, symbols);
+            symbols_of(high, 0)
+        } else {
+            let (high, low) = wide_rest(&self.high, &self.low, symbols);
+            symbols_of(high, low)
+        }
+    }
+}
+
+/// The multiple of a polynomial.
+fn multiple(polynomial: &[Gf; 32], factor: Gf) -> [Gf; 32]
+    ensures { values result ≡ scaled factor.value (values polynomial.now) }
+{
+    let mut multiple = [Gf::ZERO; 32];
+    for k in 0..32 {
+        multiple[k] = factor.mul(polynomial[k]);
+    }
+    multiple
+}
+
+/// Sixteen symbols in one number, the first in the top byte.
+fn packed(symbols: &[Gf]) -> u128
+    requires sixteen { length symbols.now ≡ 16 }
+    requires elements { All IsElement (values symbols.now) }
+    ensures { to_be_bytes w128 result ≡ values symbols.now }
+{
+    let mut number = 0;
+    for symbol in symbols {
+        number = number << 8 ^ u128::from(symbol.value);
+    }
+    number
+}
+
+/// The symbols of a register.
+fn symbols_of(high: u128, low: u128) -> [u8; 32]
+    ensures { result ≡ register high low }
+{
+    let mut symbols = [0; 32];
+    symbols[..16].copy_from_slice(&high.to_be_bytes());
+    symbols[16..].copy_from_slice(&low.to_be_bytes());
+    symbols
+}
+
+/// Feeds symbols to a register of 16 symbols, which are enough where t is at most 8.
+fn narrow_rest(rows: &[u128; 256], symbols: &[u8]) -> u128
+    ensures { (t : ℕ) (low : List ℕ) → t ≤ 8 → AreRows t rows.now low → IsRest t symbols.now (register result 0) }
+{
+    let mut rest = 0u128;
+    for symbol in symbols {
+        let place = (rest >> 120) as u8 ^ *symbol;
+        rest = rest << 8 ^ rows[place as usize];
+    }
+    rest
+}
+
+/// Feeds symbols to a register of 32 symbols.
+fn wide_rest(high_rows: &[u128; 256], low_rows: &[u128; 256], symbols: &[u8]) -> (u128, u128)
+    ensures { (t : ℕ) → AreRows t high_rows.now low_rows.now → IsRest t symbols.now (register result.0 result.1) }
+{
+    let mut high = 0u128;
+    let mut low = 0u128;
+    for symbol in symbols {
+        let place = ((high >> 120) as u8 ^ *symbol) as usize;
+        high = high << 8 ^ low >> 120 ^ high_rows[place];
+        low = low << 8 ^ low_rows[place];
+    }
+    (high, low)
+}
+
+/// Feeds the symbols of several interleaves to their registers of 16 symbols, column by column.
+fn narrow_rests(rows: &[u128; 256], symbols: &[u8], many: usize) -> [u128; 16]
+    requires some { 1 ≤ many }
+    requires few { many ≤ 16 }
+    ensures { (t : ℕ) (low : List ℕ) → t ≤ 8 → AreRows t rows.now low → (v : ℕ) → v < many
+        → IsRest t (interleave many v symbols.now) (register (slice_index result v) 0) }
+{
+    let mut rests = [0u128; 16];
+    for s in 0..symbols.len() / many {
+        feed_narrow(&mut rests, rows, &symbols[s * many..s * many + many]);
+    }
+    rests
+}
+
+/// Feeds a symbol to each of the first registers of 16 symbols.
+fn feed_narrow(rests: &mut [u128; 16], rows: &[u128; 256], column: &[u8])
+    requires { length column.now ≤ 16 }
+    ensures { (v : ℕ) → v < length column.now
+        → slice_index rests.new v ≡ narrow_step rows.now (slice_index rests.old v) (slice_index column.now v) }
+{
+    for v in 0..column.len() {
+        let place = (rests[v] >> 120) as u8 ^ column[v];
+        rests[v] = rests[v] << 8 ^ rows[place as usize];
+    }
+}
+
+/// Feeds the symbols of several interleaves to their registers of 32 symbols, column by column.
+fn wide_rests(
+    high_rows: &[u128; 256],
+    low_rows: &[u128; 256],
+    symbols: &[u8],
+    many: usize,
+) -> ([u128; 16], [u128; 16])
+    requires some { 1 ≤ many }
+    requires few { many ≤ 16 }
+    ensures { (t : ℕ) → AreRows t high_rows.now low_rows.now → (v : ℕ) → v < many
+        → IsRest t (interleave many v symbols.now) (register (slice_index result.0 v) (slice_index result.1 v)) }
+{
+    let mut high = [0u128; 16];
+    let mut low = [0u128; 16];
+    for s in 0..symbols.len() / many {
+        feed_wide(
+            &mut high,
+            &mut low,
+            high_rows,
+            low_rows,
+            &symbols[s * many..s * many + many],
+        );
+    }
+    (high, low)
+}
+
+/// Feeds a symbol to each of the first registers of 32 symbols.
+fn feed_wide(
+    high: &mut [u128; 16],
+    low: &mut [u128; 16],
+    high_rows: &[u128; 256],
+    low_rows: &[u128; 256],
+    column: &[u8],
+)
+    requires { length column.now ≤ 16 }
+    ensures high { (v : ℕ) → v < length column.now
+        → slice_index high.new v ≡ wide_step high_rows.now (slice_index high.old v) (slice_index low.old v) (slice_index column.now v) }
+    ensures low { (v : ℕ) → v < length column.now
+        → slice_index low.new v ≡ wide_step_behind low_rows.now (slice_index high.old v) (slice_index low.old v) (slice_index column.now v) }
+{
+    for v in 0..column.len() {
+        let place = ((high[v] >> 120) as u8 ^ column[v]) as usize;
+        high[v] = high[v] << 8 ^ low[v] >> 120 ^ high_rows[place];
+        low[v] = low[v] << 8 ^ low_rows[place];
+    }
+}
+
+/// The symbols of each register.
+fn all_symbols(high: &[u128; 16], low: &[u128; 16]) -> [[u8; 32]; 16]
+    ensures { (v : ℕ) → v < 16 → slice_index_or result v [] ≡ register (slice_index high.now v) (slice_index low.now v) }
+{
+    let mut symbols = [[0; 32]; 16];
+    for v in 0..16 {
+        symbols[v] = symbols_of(high[v], low[v]);
+    }
+    symbols
+}
+
+/// Writes the first symbols of each row into its interleave.
+fn put_columns(rows: &[[u8; 32]; 16], many: usize, out: &mut [u8])
+    requires some { 1 ≤ many }
+    requires few { many ≤ 16 }
+    requires short { length out.old ≤ 32 * many }
+    ensures { (k v : ℕ) → v < many → k < length out.old / many
+        → slice_index out.new (k * many + v) ≡ slice_index (slice_index_or rows.now v []) k }
+{
+    for k in 0..out.len() / many {
+        for v in 0..many {
+            out[k * many + v] = rows[v][k];
+        }
+    }
+}
+
+/// Whether the first symbols of each row are those of its interleave.
+fn columns_agree(rows: &[[u8; 32]; 16], many: usize, given: &[u8]) -> bool
+    requires some { 1 ≤ many }
+    requires few { many ≤ 16 }
+    requires short { length given.now ≤ 32 * many }
+    ensures { IsTrue result ↔ ((k v : ℕ) → v < many → k < length given.now / many
+        → slice_index given.now (k * many + v) ≡ slice_index (slice_index_or rows.now v []) k) }
+{
+    for k in 0..given.len() / many {
+        for v in 0..many {
+            if given[k * many + v] != rows[v][k] {
+                return false;
+            }
+        }
+    }
+    true
+}
