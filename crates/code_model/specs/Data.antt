@@ -3,8 +3,8 @@ use Rattle.std.specs.Prelude.{map}
 use Rattle.code_model.specs.declared.code.Code.TheInside.{Inside}
 use Rattle.code_spec.specs.Code.{CodeData, IsCode}
 
-abbrev pub data_of : Inside → CodeData
-data_of c = record {
+abbrev pub code_data : Inside → CodeData
+code_data c = record {
   constraint = c.constraint;
   p = c.p;
   q = c.q;
@@ -14,4 +14,4 @@ data_of c = record {
 }
 
 abbrev pub KeepsTable : Inside → Type 0
-KeepsTable c = IsCode (data_of c)
+KeepsTable c = IsCode (code_data c)

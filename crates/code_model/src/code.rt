@@ -1,5 +1,5 @@
-ghost use Rattle.std.specs.Prelude.{◌≡◌, ◌<◌, ◌^◌, length};
-ghost use Rattle.code_spec.specs.Code.{IsCode};
+ghost use Rattle.std.specs.Prelude.{◌≡◌};
+ghost use Rattle.code_spec.specs.Code.{IsCode, IsState, IsDataWord};
 ghost use Rattle.code_spec.specs.Output.{row_at};
 
 use code_spec::CodeRow;
@@ -32,9 +32,9 @@ impl Model for Code {
 
     ghost Value = { CodeData };
 
-    ghost use Rattle.code_model.specs.Data.{data_of, KeepsTable};
+    ghost use Rattle.code_model.specs.Data.{code_data, KeepsTable};
 
-    ghost view = { data_of };
+    ghost view = { code_data };
 
     ghost invariant = { KeepsTable };
 }
@@ -43,11 +43,11 @@ impl Code {
     /// The block that the code writes in a state for a data word, and the state that it goes to.
     #[inline]
     pub fn step(&self, state: CodeName, word: u32) -> (Block, CodeName)
-        requires state { state < length self.now.rows }
-        requires word { word < 2 ^ self.now.p }
+        requires state { IsState self.now state }
+        requires word { IsDataWord self.now word }
         ensures block { result.0 ≡ (row_at self.now.rows state word).block }
         ensures next { result.1 ≡ (row_at self.now.rows state word).to }
-        ensures inside { result.1 < length self.now.rows }
+        ensures inside { IsState self.now result.1 }
         ensures table { IsCode self.now }
     {
         let row = self.row(state, word);
@@ -56,8 +56,8 @@ impl Code {
 
     #[inline]
     fn row(&self, state: CodeName, word: u32) -> CodeRow
-        requires state { state < length self.now.rows }
-        requires word { word < 2 ^ self.now.p }
+        requires state { IsState self.now state }
+        requires word { IsDataWord self.now word }
         ensures row { result ≡ row_at self.now.rows state word }
         ensures table { IsCode self.now }
     {

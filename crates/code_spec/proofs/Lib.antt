@@ -1,3 +1,4 @@
 pub mod Examples
 pub mod OutputLaws
 pub mod PlainTextLaws
+pub mod StepLaws

@@ -1,14 +1,20 @@
--- What a code writes for data words.
+-- What a code writes for data words, and the states that they lead to.
 use Rattle.std.specs.Prelude.{◌≡◌, ℕ, List, [], ◌∷◌, ◌++◌, slice_index_or}
 use Rattle.std.specs.List.{flat_map}
 use Rattle.symbol_base.specs.declared.Block.{Block}
 use Rattle.symbol_base.specs.Block.{symbols_of}
 use Rattle.code_spec.specs.declared.CodeRow.{CodeRow}
-use Rattle.code_spec.specs.Code.{CodeData}
+use Rattle.code_spec.specs.Code.{CodeData, IsState, IsDataWord}
 
--- the row of a state and a data word
+-- the row of a state and a data word; outside the table a row that isn't there reads as block 0 and state 0
 abbrev pub row_at : List (List CodeRow) → ℕ → ℕ → CodeRow
 row_at rows state word = slice_index_or (slice_index_or rows state []) word (record { block = record { value = 0 }; to = 0 })
+
+-- The code's step: in a state a data word leads to the next state, by the row of the two.
+pub record IsStep (c : CodeData) (state word next : ℕ) : Type 0 where
+  pub from : IsState c state
+  pub by : IsDataWord c word
+  pub to : next ≡ (row_at c.rows state word).to
 
 -- the blocks that data words give from a state on
 abbrev pub output_from : List (List CodeRow) → ℕ → List ℕ → List Block

@@ -1,10 +1,11 @@
 //! What a code is and what it writes: the definitions that every crate above cites, and their laws.
 #![tactic(auto)]
 
-ghost use Rattle.std.specs.Prelude.{◌≡◌, ℕ, ◌+◌, ◌*◌, List, ◌++◌, length};
+ghost use Rattle.std.specs.Prelude.{◌≡◌, ℕ, ◌+◌, ◌*◌, ◌↔◌, List, ◌++◌, length};
+ghost use Rattle.symbol_base.specs.Walk.{IsWalk};
 ghost use Rattle.code_spec.specs.declared.CodeRow.{CodeRow};
-ghost use Rattle.code_spec.specs.Code.{CodeData};
-ghost use Rattle.code_spec.specs.Output.{output_from, state_after, flat};
+ghost use Rattle.code_spec.specs.Code.{CodeData, IsCode, IsState, IsDataWords};
+ghost use Rattle.code_spec.specs.Output.{output_from, state_after, IsStep};
 ghost use Rattle.code_spec.specs.PlainText.{word_count, plain_symbols, plain_text, plain_length};
 
 use symbol_base::{Block, CodeName};
@@ -23,6 +24,15 @@ pub fn output_of_parts()
     ensures state { (rows : List (List CodeRow)) (state : ℕ) (xs ys : List ℕ)
         → state_after rows state (xs ++ ys) ≡ state_after rows (state_after rows state xs) ys }
     ensures count { (rows : List (List CodeRow)) (state : ℕ) (words : List ℕ) → length (output_from rows state words) ≡ length words }
+{}
+
+/// Data words lead from a state of a code along a walk of its steps: to the state after them, which is
+/// one of the code's, and to no other.
+pub fn words_lead_along_a_walk()
+    ensures walk { (c : CodeData) (state : ℕ) (words : List ℕ) (next : ℕ) → IsCode c → IsState c state
+        → IsWalk (IsStep c) state words next ↔ (IsDataWords c words × (next ≡ state_after c.rows state words)) }
+    ensures inside { (c : CodeData) (state : ℕ) (words : List ℕ) → IsCode c → IsState c state → IsDataWords c words
+        → IsState c (state_after c.rows state words) }
 {}
 
 /// A plain text has q digits for each block of lead-in, file and lead-out, and a line feed.

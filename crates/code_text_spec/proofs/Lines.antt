@@ -4,15 +4,11 @@ use Rattle.std.specs.Prelude.{All, codes}
 use Rattle.std.specs.Fmt.{decimal}
 use Rattle.std.proofs.lemmas.List.{length-append, length-map}
 use Rattle.std.proofs.lemmas.List.Elements.{All-head, All-tail}
-use Rattle.std.proofs.lemmas.List.Concat.{flat_map-append}
+use Rattle.text_reading.proofs.LineSteps.{text_of-append}
 use Rattle.code_spec.specs.declared.CodeRow.{CodeRow}
 use Rattle.constraint_spec.specs.Constraint.{ConstraintData}
 use Rattle.code_spec.specs.Code.{CodeData, IsCode, IsStateOf}
 use Rattle.code_text_spec.specs.CodeText.{spaced, digits, limit, edge_line, constraint_lines, state_lines, table_lines, code_lines, text_of, code_text}
-
--- lines behind lines are spelled behind them
-pub text_of-append : (front back : List (List ℕ)) → text_of (front ++ back) ≡ text_of front ++ text_of back
-text_of-append front back = flat_map-append (λ (line : List ℕ). line ++ 10 ∷ []) front back
 
 -- the constraint's lines, and the others behind them
 pub constraint_in_front : (c : CodeData) → code_text c

@@ -1,8 +1,8 @@
 -- The code file: ASCII text, a line feed behind each line, one space between fields, and decimal numbers
 -- without leading zeros, so each code has one spelling.
 use Rattle.std.specs.Prelude.{◌≡◌, ℕ, ◌+◌, List, [], ◌∷◌, ◌++◌, length, map, Option, Some, None, codes}
-use Rattle.std.specs.List.{flat_map}
 use Rattle.std.specs.Fmt.{decimal}
+pub use Rattle.text_reading.specs.Lines.{text_of}
 use Rattle.symbol_base.specs.Block.{symbols_of}
 use Rattle.constraint_spec.specs.declared.GraphEdge.{GraphEdge}
 use Rattle.constraint_spec.specs.Constraint.{ConstraintData}
@@ -35,14 +35,14 @@ constraint_lines c =
     ++ map edge_line c.edges
 
 -- state, data word, block and target
-abbrev pub row_line : CodeData → ℕ → ℕ → CodeRow → List ℕ
-row_line c state word row =
-    spaced (decimal state) (spaced (decimal word) (spaced (digits (symbols_of c.constraint.alphabet c.q row.block.value)) (decimal row.to)))
+abbrev pub row_line : ℕ → ℕ → ℕ → ℕ → CodeRow → List ℕ
+row_line alphabet q state word row =
+    spaced (decimal state) (spaced (decimal word) (spaced (digits (symbols_of alphabet q row.block.value)) (decimal row.to)))
 
 -- the rows of a state, from a data word on
 abbrev pub state_lines : CodeData → ℕ → ℕ → List CodeRow → List (List ℕ)
 state_lines c state word [] = []
-state_lines c state word (row ∷ rows) = row_line c state word row ∷ state_lines c state (word + 1) rows
+state_lines c state word (row ∷ rows) = row_line c.constraint.alphabet c.q state word row ∷ state_lines c state (word + 1) rows
 
 -- the rows of the states from one on
 abbrev pub table_lines : CodeData → ℕ → List (List CodeRow) → List (List ℕ)
@@ -57,10 +57,6 @@ code_lines c =
     ∷ spaced (codes "states") (decimal (length c.rows))
     ∷ table_lines c 0 c.rows
 
--- lines, each with its line feed
-abbrev pub text_of : List (List ℕ) → List ℕ
-text_of lines = flat_map (λ line. line ++ 10 ∷ []) lines
-
 -- the text of a code
 abbrev pub code_text : CodeData → List ℕ
 code_text c = text_of (code_lines c)
@@ -69,9 +65,3 @@ code_text c = text_of (code_lines c)
 pub record IsCodeText (bytes : List ℕ) (c : CodeData) : Type 0 where
   pub code : IsCode c
   pub spelled : bytes ≡ code_text c
-
--- The first form of a code file: no forbidden words and no graph.
-pub record IsFirstForm (bytes : List ℕ) (c : CodeData) : Type 0 where
-  pub text : IsCodeText bytes c
-  pub no_forbidden : c.constraint.forbid ≡ []
-  pub no_graph : c.constraint.edges ≡ []

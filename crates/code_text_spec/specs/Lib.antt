@@ -1,1 +1,2 @@
 pub mod CodeText
+pub mod LineRules

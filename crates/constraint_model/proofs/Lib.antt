@@ -1,3 +1,5 @@
 mod Runs
 mod Reading
-mod RunsAlone
+mod WordParts
+mod StateSets
+mod Parts

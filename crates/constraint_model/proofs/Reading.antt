@@ -8,7 +8,7 @@ use Rattle.constraint_spec.specs.Word.{IsFactor}
 use Rattle.constraint_spec.specs.Constraint.{IsWordOf}
 use Rattle.constraint_spec.proofs.Factors.{IsFactor-nil, IsFactor-drop, IsFactor-cons_cases}
 use Rattle.constraint_spec.proofs.Words.{IsWordOf-factor}
-use Rattle.constraint_model.specs.Front.{limited, IsDemand, IsLengthened, IsRead}
+use Rattle.constraint_model.specs.inside.Front.{limited, IsDemand, IsLengthened, IsRead}
 use Rattle.constraint_model.specs.declared.words.Front.{Front}
 use Rattle.constraint_model.specs.declared.words.Limits.{Limits}
 use Rattle.constraint_model.proofs.Runs.{run_at_most, one_behind, run_within, no_run}

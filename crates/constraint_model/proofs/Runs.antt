@@ -2,7 +2,7 @@
 use Rattle.std.proofs.Common.{◌≡◌, ◌≢◌, ℕ, zero, suc, ◌+◌, ◌-◌, ◌≤◌, List, [], ◌∷◌, ◌++◌, replicate, refl, ap, sym, ◌∙◌, subst, append_assoc, add-one, arith}
 use Rattle.std.proofs.lemmas.List.{replicate-append-replicate}
 use Rattle.constraint_spec.specs.Word.{IsFactor}
-use Rattle.constraint_model.specs.Front.{IsDemand}
+use Rattle.constraint_model.specs.inside.Front.{IsDemand}
 
 -- no longer run of 0s begins the word
 pub run_at_most :

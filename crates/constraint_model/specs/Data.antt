@@ -3,8 +3,8 @@ use Rattle.constraint_model.specs.declared.constraint.Constraint.TheInside.{Insi
 use Rattle.constraint_spec.specs.Constraint.{ConstraintData}
 use Rattle.constraint_spec.specs.Ranges.{IsConstraint}
 
-abbrev pub data_of : Inside → ConstraintData
-data_of c = record {
+abbrev pub constraint_data : Inside → ConstraintData
+constraint_data c = record {
   alphabet = c.alphabet;
   d = c.d;
   k = c.k;
@@ -14,4 +14,4 @@ data_of c = record {
 }
 
 abbrev pub KeepsRanges : Inside → Type 0
-KeepsRanges c = IsConstraint (data_of c)
+KeepsRanges c = IsConstraint (constraint_data c)

@@ -1,6 +1,6 @@
 pub mod Data
 pub mod RunLength
-pub mod Front
+pub mod inside
 pub use Rattle.constraint_spec.specs.Word
 pub use Rattle.constraint_spec.specs.Walk
 pub use Rattle.constraint_spec.specs.Constraint

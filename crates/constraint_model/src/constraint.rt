@@ -1,11 +1,11 @@
-ghost use Rattle.std.specs.Prelude.{◌≡◌, ◌≤◌, IfSome};
+ghost use Rattle.std.specs.Prelude.{◌≡◌, ◌≤◌, IfSome, IfOk};
 ghost use Rattle.constraint_spec.specs.Ranges.{IsConstraint};
 ghost use Rattle.constraint_model.specs.RunLength.{run_length};
 
 use constraint_spec::GraphEdge;
 use std::alloc::Global;
 use std::marker::Model;
-use symbol_base::ByteList;
+use symbol_base::{ByteList, NoMemory};
 
 /// A constraint on words of symbols: the parts that a word of it has to satisfy.
 ///
@@ -32,9 +32,9 @@ impl Model for Constraint {
 
     ghost Value = { ConstraintData };
 
-    ghost use Rattle.constraint_model.specs.Data.{data_of, KeepsRanges};
+    ghost use Rattle.constraint_model.specs.Data.{constraint_data, KeepsRanges};
 
-    ghost view = { data_of };
+    ghost view = { constraint_data };
 
     ghost invariant = { KeepsRanges };
 }
@@ -58,4 +58,31 @@ impl Constraint {
             edges: Vec::new(alloc),
         }
     }
+
+    /// An equal constraint, whose lists own their memory.
+    pub fn copy(&self, alloc: Global) -> Result<Constraint, NoMemory>
+        ensures { IfOk result (λ copy. copy ≡ self.now) }
+    {
+        Ok(Constraint {
+            alphabet: self.alphabet,
+            d: self.d,
+            k: self.k,
+            forbid: copy_of_lists(alloc, &self.forbid)?,
+            states: self.states,
+            edges: Vec::from_slice(alloc, &self.edges)?,
+        })
+    }
 }
+
+fn copy_of_lists(alloc: Global, lists: &[ByteList]) -> Result<Vec<ByteList>, NoMemory>
+    ensures { IfOk result (λ copies. copies.items ≡ lists.now) }
+{
+    let mut copies = Vec::with_capacity(alloc, lists.len())?;
+    for list in lists {
+        copies.push(ByteList::copy(alloc, list.as_slice())?)?;
+    }
+    Ok(copies)
+}
+
+#[cfg(test)]
+mod tests;

@@ -2,6 +2,8 @@
 #![tactic(auto)]
 
 mod constraint;
+mod forbidden;
+mod walks;
 mod words;
 
 pub use constraint::Constraint;

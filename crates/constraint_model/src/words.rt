@@ -1,10 +1,12 @@
-ghost use Rattle.std.specs.Prelude.{◌≡◌, ◌≢◌, ◌+◌, ◌<◌, ◌^◌, ◌↔◌, [], IsTrue, Some, MatchOption};
+ghost use Rattle.std.specs.Prelude.{◌≡◌, ◌+◌, ◌<◌, ◌^◌, ◌↔◌, IsTrue, Some, MatchOption};
 ghost use Rattle.constraint_spec.specs.Constraint.{IsWordOf};
 ghost use Rattle.constraint_spec.specs.Ranges.{IsConstraint};
 ghost use Rattle.constraint_model.specs.RunLength.{run_length};
-ghost use Rattle.constraint_model.specs.Front.{IsExtended, IsLengthened};
+ghost use Rattle.constraint_model.specs.inside.Front.{IsExtended, IsLengthened};
 
 use crate::constraint::Constraint;
+use crate::forbidden::avoids;
+use crate::walks::labels_walk;
 
 /// The lengths of runs of 0s that a word may have.
 #[derive(Clone, Copy)]
@@ -21,12 +23,13 @@ struct Front {
     least: usize,
 }
 
-/// Whether the word belongs to the constraint, which has neither forbidden words nor a graph.
+/// Whether the word belongs to the constraint.
 ///
-/// A word with a symbol outside the alphabet does not. Takes one pass over the word and no memory.
+/// A word with a symbol outside the alphabet does not. The test takes no memory. It goes over the word
+/// once for the symbols and the runs of 0s; where these are in order, once for each forbidden word,
+/// which it compares at each place; and, where there is a graph, once more, over all edges for each
+/// symbol (Marcus, Roth, Siegel, chapter 2: the subset construction).
 pub fn has_word(constraint: &Constraint, word: &[u8]) -> bool
-    requires no_forbidden { constraint.now.forbid ≡ [] }
-    requires no_graph { constraint.now.edges ≡ [] }
     ensures word { IsTrue result ↔ IsWordOf constraint.now word.now }
     ensures ranges { IsConstraint constraint.now }
 {
@@ -36,6 +39,8 @@ pub fn has_word(constraint: &Constraint, word: &[u8]) -> bool
         most: longest_run(constraint.k),
     };
     keeps_runs(limits, word)
+        && avoids(&constraint.forbid, word)
+        && labels_walk(&constraint.edges, word)
 }
 
 /// The greatest length of a run of 0s: any that a word can have where there is no `k`.

@@ -1,40 +1,48 @@
--- Walks and their parts.
-use Rattle.std.proofs.Common.{ℕ, List, [], ◌∷◌, ◌++◌, subst}
+-- Walks of a graph: their parts, and the states that they pass.
+use Rattle.std.proofs.Common.{◌↔◌, ℕ, List, [], ◌∷◌, ◌++◌, refl, subst}
+use Rattle.symbol_base.specs.Walk.{IsWalk}
+use Rattle.symbol_base.proofs.Walks.{walk-part}
 use Rattle.constraint_spec.specs.declared.GraphEdge.{GraphEdge}
 use Rattle.constraint_spec.specs.Word.{IsFactor}
-use Rattle.constraint_spec.specs.Walk.{IsWalk}
-
--- the last steps of a walk are a walk
-IsWalk-end :
-    (edges : List GraphEdge) (states u w : List ℕ) → IsWalk edges states (u ++ w)
-    → (rest : List ℕ) × IsWalk edges rest w
-IsWalk-end edges states [] w walk = (states, walk)
-IsWalk-end edges [] (symbol ∷ u) w walk = absurd walk
-IsWalk-end edges (state ∷ []) (symbol ∷ u) w walk = absurd walk
-IsWalk-end edges (state ∷ next ∷ states) (symbol ∷ u) w walk = IsWalk-end edges (next ∷ states) u w walk.1
-
--- the first steps of a walk are a walk from the same state
-IsWalk-front :
-    (edges : List GraphEdge) (state : ℕ) (states v w : List ℕ) → IsWalk edges (state ∷ states) (v ++ w)
-    → (front : List ℕ) × IsWalk edges (state ∷ front) v
-IsWalk-front edges state states [] w walk = ([], tt)
-IsWalk-front edges state [] (symbol ∷ v) w walk = absurd walk
-IsWalk-front edges state (next ∷ states) (symbol ∷ v) w walk =
-    let front = IsWalk-front edges next states v w walk.1 in (next ∷ front.0, (walk.0, front.1))
-
--- a walk has a first state
-IsWalk-front_any :
-    (edges : List GraphEdge) (states v w : List ℕ) → IsWalk edges states (v ++ w)
-    → (front : List ℕ) × IsWalk edges front v
-IsWalk-front_any edges [] v w walk = absurd walk
-IsWalk-front_any edges (state ∷ states) v w walk =
-    let front = IsWalk-front edges state states v w walk in (state ∷ front.0, front.1)
+use Rattle.constraint_spec.specs.Walk.{HasEdge, LabelsWalk, PassesStates}
 
 -- a part of a walk's labels labels a walk
-pub IsWalk-factor :
-    (edges : List GraphEdge) (states v w : List ℕ) → IsFactor v w → IsWalk edges states w
-    → (part : List ℕ) × IsWalk edges part v
-IsWalk-factor edges states v w part walk =
-    let whole = subst (λ word. IsWalk edges states word) part.joined walk in
-    let end = IsWalk-end edges states part.before (v ++ part.after) whole in
-    IsWalk-front_any edges end.0 v part.after end.1
+pub LabelsWalk-factor :
+    (edges : List GraphEdge) (v w : List ℕ) → IsFactor v w → LabelsWalk edges w → LabelsWalk edges v
+LabelsWalk-factor edges v w part walk =
+    let step = HasEdge edges in
+    let whole = subst (λ word. IsWalk step walk.0 word walk.1) part.joined walk.2 in
+    let end = walk-part step part.before (v ++ part.after) walk.0 walk.1 whole in
+    let middle = walk-part step v part.after end.0 walk.1 end.2 in
+    (end.0, middle.0, middle.1)
+
+-- the states that a walk passes, the first one given
+states_of :
+    (edges : List GraphEdge) (from : ℕ) (word : List ℕ) (to : ℕ) → IsWalk (HasEdge edges) from word to
+    → (states : List ℕ) × PassesStates edges word (from ∷ states)
+states_of edges from [] to walk = ([], tt)
+states_of edges from (symbol ∷ word) to walk =
+    let rest = states_of edges walk.0 word to walk.2 in (walk.0 ∷ rest.0, (walk.1, rest.1))
+
+-- the walk that passes the states
+walk_of :
+    (edges : List GraphEdge) (word : List ℕ) (from : ℕ) (states : List ℕ) → PassesStates edges word (from ∷ states)
+    → (to : ℕ) × IsWalk (HasEdge edges) from word to
+walk_of edges [] from [] passed = (from, refl)
+walk_of edges [] from (next ∷ states) passed = absurd passed
+walk_of edges (symbol ∷ word) from [] passed = absurd passed
+walk_of edges (symbol ∷ word) from (next ∷ states) passed =
+    let rest = walk_of edges word next states passed.1 in (rest.0, (next, passed.0, rest.1))
+
+labels_by :
+    (edges : List GraphEdge) (word states : List ℕ) → PassesStates edges word states → LabelsWalk edges word
+labels_by edges word [] passed = absurd passed
+labels_by edges word (from ∷ states) passed = let walk = walk_of edges word from states passed in (from, walk.0, walk.1)
+
+pub labels_by_states :
+    (edges : List GraphEdge) (word : List ℕ)
+    → LabelsWalk edges word ↔ ((states : List ℕ) × PassesStates edges word states)
+labels_by_states edges word = (
+  λ walk. let states = states_of edges walk.0 word walk.1 walk.2 in (walk.0 ∷ states.0, states.1),
+  λ states. labels_by edges word states.0 states.1,
+)

@@ -1,5 +1,5 @@
 -- Words of a constraint: their parts belong to it too, and so does the empty word.
-use Rattle.std.proofs.Common.{ℕ, ◌<◌, List, [], ◌∷◌, replicate, Option, Some, None, IfSome, subst, sym, arith, ◌+◌, add-one}
+use Rattle.std.proofs.Common.{ℕ, List, [], ◌∷◌, replicate, Option, Some, None, IfSome, refl, subst, sym, arith, ◌+◌, add-one}
 use Rattle.std.specs.List.{Contains}
 use Rattle.std.proofs.lemmas.Option.{IfSome_then}
 use Rattle.std.proofs.lemmas.List.Elements.{All-contains}
@@ -7,7 +7,7 @@ use Rattle.constraint_spec.specs.Word.{IsFactor}
 use Rattle.constraint_spec.specs.Constraint.{ConstraintData, IsWordOf}
 use Rattle.constraint_spec.specs.Ranges.{IsConstraint, IsForbiddable}
 use Rattle.constraint_spec.proofs.Factors.{IsFactor-trans, IsFactor-nil, IsOver-factor}
-use Rattle.constraint_spec.proofs.Walks.{IsWalk-factor}
+use Rattle.constraint_spec.proofs.Walks.{LabelsWalk-factor}
 
 -- a part of a word is a word
 pub IsWordOf-factor : (c : ConstraintData) (v w : List ℕ) → IsWordOf c w → IsFactor v w → IsWordOf c v
@@ -16,7 +16,7 @@ IsWordOf-factor c v w word part = record {
   ones = λ n found. word.ones n (IsFactor-trans _ v w found part);
   zeros = IfSome_then c.k word.zeros (λ k none found. none (IsFactor-trans _ v w found part));
   forbidden = λ u listed found. word.forbidden u listed (IsFactor-trans u v w found part);
-  walked = λ given. let walk = word.walked given in IsWalk-factor c.edges walk.0 v w part walk.1;
+  walked = λ given. LabelsWalk-factor c.edges v w part (word.walked given);
 }
 
 -- the empty word has no run of 0s
@@ -45,5 +45,5 @@ IsWordOf-nil c ranges = record {
   ones = λ n found. absurd (IsFactor-nil 1 _ found);
   zeros = no_zeros c.k;
   forbidden = λ u listed found. not_empty c.alphabet u (listed_forbiddable c u ranges listed) found;
-  walked = λ given. (0 ∷ [], tt);
+  walked = λ given. (0, 0, refl);
 }

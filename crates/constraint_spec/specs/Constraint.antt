@@ -1,9 +1,9 @@
 -- A constraint on words, as plain data, and which words belong to it.
-use Rattle.std.specs.Prelude.{◌≢◌, ℕ, ◌+◌, ◌<◌, ◌≤◌, List, [], ◌∷◌, ◌++◌, replicate, Option, IfSome, Contains}
+use Rattle.std.specs.Prelude.{◌≢◌, ℕ, ◌+◌, ◌≤◌, List, [], ◌∷◌, ◌++◌, replicate, Option, IfSome, Contains}
 use Rattle.symbol_base.specs.Word.{IsOver}
 use Rattle.constraint_spec.specs.declared.GraphEdge.{GraphEdge}
 use Rattle.constraint_spec.specs.Word.{IsFactor}
-use Rattle.constraint_spec.specs.Walk.{IsWalk}
+use Rattle.constraint_spec.specs.Walk.{LabelsWalk}
 
 -- the parts of a constraint: its symbols are 0 to alphabet - 1
 pub record ConstraintData : Type 0 where
@@ -25,4 +25,4 @@ pub record IsWordOf (c : ConstraintData) (w : List ℕ) : Type 0 where
   -- no forbidden word is a part of it
   pub forbidden : (v : List ℕ) → Contains c.forbid v → IsFactor v w → ⊥
   -- it labels some walk of the graph, where there is one
-  pub walked : c.edges ≢ [] → (states : List ℕ) × IsWalk c.edges states w
+  pub walked : c.edges ≢ [] → LabelsWalk c.edges w

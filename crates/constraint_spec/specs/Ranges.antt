@@ -1,14 +1,9 @@
 -- The ranges and orders that the parts of a constraint keep.
-use Rattle.std.specs.Prelude.{◌≡◌, ℕ, ◌<◌, ◌≤◌, ◌↔◌, ◌⊎◌, List, [], ◌∷◌, length, All, IfSome}
+use Rattle.std.specs.Prelude.{◌≡◌, ℕ, ◌<◌, ◌≤◌, ◌↔◌, ◌⊎◌, List, [], length, All, IfSome}
+use Rattle.symbol_base.specs.Ascending.{IsAscending}
 use Rattle.symbol_base.specs.Word.{IsOver, IsBefore}
 use Rattle.constraint_spec.specs.declared.GraphEdge.{GraphEdge}
 use Rattle.constraint_spec.specs.Constraint.{ConstraintData}
-
--- each item stands before the next one, so none comes twice
-abbrev pub IsAscending : {A : Type 0} → (A → A → Type 0) → List A → Type 0
-IsAscending before [] = Unit {0}
-IsAscending before (x ∷ []) = Unit {0}
-IsAscending before (x ∷ y ∷ xs) = before x y × IsAscending before (y ∷ xs)
 
 -- by state, then by label, then by target
 abbrev pub IsEdgeBefore : GraphEdge → GraphEdge → Type 0

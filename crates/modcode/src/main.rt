@@ -1,38 +1,39 @@
-//! The program `modcode`: its words, and the real files and output, handed to `workbench::run`.
+//! The program `modcode`: its arguments, and the real files and output, handed to `workbench`.
 #![tactic(auto)]
 
 ghost use Rattle.std.specs.Prelude.{◌≡◌, ◌⊎◌, IfErr};
+ghost use Rattle.command_steps.specs.declared.status.Status.TheVariants as statuses;
 
+use command_steps::Status;
 use shelf_io::{HostShelf, HostSink};
 use std::env;
 use std::io::ErrorKind;
 use std::process::ExitCode;
 use std::rt::{Env, Files};
-use workbench::{Status, run};
+use workbench::{end_with, run_arguments};
 
-/// The words behind the program's name. One that is no UTF-8 is a word of no form.
-fn words_of(rt: &(impl Env + AllocGlobal)) -> Result<Vec<String>, Status>
-    ensures { IfErr result (λ status. (status ≡ Status.Usage) ⊎ (status ≡ Status.NoMemory)) }
+/// The arguments of the process, its name first. One that is no UTF-8 makes words of no form.
+fn arguments(rt: &(impl Env + AllocGlobal)) -> Result<Vec<String>, Status>
+    ensures { IfErr result (λ status. (status ≡ statuses.Usage) ⊎ (status ≡ statuses.NoMemory)) }
 {
-    let words = match env::args(rt) {
-        Ok(words) => words,
-        Err(error) if error.kind() == ErrorKind::OutOfMemory => return Err(Status::NoMemory),
-        Err(_) => return Err(Status::Usage),
-    };
-    Ok(words.skip(1).collect(rt.alloc())?)
+    match env::args(rt) {
+        Ok(arguments) => Ok(arguments.collect(rt.alloc())?),
+        Err(error) if error.kind() == ErrorKind::OutOfMemory => Err(Status::NoMemory),
+        Err(_) => Err(Status::Usage),
+    }
 }
 
-fn status_of<R: Env + Files + Print + AllocGlobal>(rt: &R) -> Status {
-    match words_of(rt) {
-        Ok(words) => {
+fn exit_status<R: Env + Files + Print + AllocGlobal>(rt: &R) -> u8 {
+    let mut out = HostSink::new(rt);
+    match arguments(rt) {
+        Ok(arguments) => {
             let mut shelf = HostShelf::new(rt);
-            let mut out = HostSink::new(rt);
-            run(rt.alloc(), words.as_slice(), &mut shelf, &mut out)
+            run_arguments(rt.alloc(), arguments.as_slice(), &mut shelf, &mut out)
         }
-        Err(status) => status,
+        Err(status) => end_with(rt.alloc(), &status, &mut out),
     }
 }
 
 fn main(rt: HostRuntime) -> ExitCode {
-    ExitCode::from(status_of(&rt).number())
+    ExitCode::from(exit_status(&rt))
 }

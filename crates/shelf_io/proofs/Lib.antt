@@ -1,2 +1,3 @@
 pub mod EntriesLemmas
+pub mod ReadsLemmas
 pub mod ShelfLemmas

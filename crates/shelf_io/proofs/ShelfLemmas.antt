@@ -1,10 +1,11 @@
 -- What one change of a shelf's files after another comes to.
-use Rattle.std.proofs.Common.{◌≡◌, ◌≢◌, ℕ, ◌+◌, ◌-◌, ◌<◌, ◌≤◌, true, false, List, [], ◌∷◌, ◌++◌, length, take, drop, Some, None, Option, refl, sym, ap, ◌∙◌, inl, inr, arith, append_assoc}
-use Rattle.std.specs.Prelude.{◌⊎◌, option_map, bytes_eq}
+use Rattle.std.proofs.Common.{◌≡◌, ◌≢◌, ℕ, ◌+◌, ◌-◌, ◌<◌, ◌≤◌, true, false, List, [], ◌∷◌, ◌++◌, length, take, drop, Some, None, Option, refl, sym, ap, ◌∙◌, inl, inr, subst, arith, append_assoc}
+use Rattle.std.specs.Prelude.{◌⊎◌, unwrap_or, IfSome, IsSomeAnd, Ok, option_map, bytes_eq}
+use Rattle.std.proofs.Math.Seq.{take-add}
 use Rattle.std.proofs.lemmas.Slice.Eq.{bytes_eq-Decides}
 use Rattle.std.proofs.lemmas.Bool.{cases_Bool}
-use Rattle.std.proofs.lemmas.List.{append-nil, length-drop, length-take-le, take-append-drop, take-take, drop-take, take_rest}
-use Rattle.shelf_io.specs.Shelf.{Files, with_file, content, appended}
+use Rattle.std.proofs.lemmas.List.{append-nil, length-drop, length-take-le, take_rest, take_all}
+use Rattle.shelf_io.specs.Shelf.{Files, OnFile, IsRead, Reads, with_file, content, appended}
 use Rattle.shelf_io.specs.WholeFile.{all_appended}
 
 -- two names are one or are told apart by their bytes
@@ -60,10 +61,7 @@ option_map-option_map f g h (Some files) same = ap (λ x. Some x) (same files)
 pub take-step : (bytes : List ℕ) (at k : ℕ) → k ≤ length bytes - at
     → take at bytes ++ take k (take (length bytes - at) (drop at bytes)) ≡ take (at + k) bytes
 take-step bytes at k h =
-    ap (λ rest. take at bytes ++ take k rest) (take_rest bytes at)
-    ∙ ap (λ rest. take at bytes ++ rest) (sym (drop-take at k bytes))
-    ∙ ap (λ front. front ++ drop at (take (at + k) bytes)) (sym (take-take at (at + k) bytes (omega arith)))
-    ∙ take-append-drop at (take (at + k) bytes)
+    ap (λ rest. take at bytes ++ take k rest) (take_rest bytes at) ∙ sym (take-add at k bytes)
 
 -- a put of the bytes behind the first ones puts the next ones, and at least one
 pub put_step : (name bytes : List ℕ) (at k : ℕ) (old mid new : Option Files) → at < length bytes
@@ -139,3 +137,46 @@ made_and_failed name bytes old made new first failed =
             (λ files. appended-made files name (take k bytes)))
       ],
     )
+
+-- a read behind the first bytes of a file reads the next ones
+next_bytes : (file : Option (List ℕ)) (front room : List ℕ) (at n : ℕ) → front ≡ take at (unwrap_or file [])
+    → IsSomeAnd file (Reads at room n) → front ++ take n room ≡ take (at + n) (unwrap_or file [])
+next_bytes None front room at n before read = absurd read
+next_bytes (Some bytes) front room at n before read =
+    ap (λ list. list ++ take n room) before ∙ ap (λ list. take at bytes ++ list) read.front ∙ sym (take-add at n bytes)
+
+-- and one that reads none, with room for some, stands at the end
+last_bytes : (file : Option (List ℕ)) (front room : List ℕ) (at limit : ℕ) → 0 < length room → length front ≤ limit
+    → front ≡ take at (unwrap_or file []) → IsSomeAnd file (Reads at room 0)
+    → IsSomeAnd file (λ bytes. (front ≡ bytes) × (length bytes ≤ limit))
+last_bytes None front room at limit some within before read = absurd read
+last_bytes (Some bytes) front room at limit some within before read =
+    let whole : front ≡ bytes = elim (read.ends refl) [
+      | inl none ↦ (let empty : length room ≡ 0 = ap length none in absurd (omega arith))
+      | inr end ↦ before ∙ take_all at bytes end
+    ] in
+    (whole, subst (λ (list : List ℕ). length list ≤ limit) whole within)
+
+-- the same read, with its place and its count under other names
+at_place : (old files : Option Files) (name room : List ℕ) (start at n count : ℕ) → files ≡ old → at ≡ start → n ≡ count
+    → OnFile files name (IsRead at room (Ok n)) → OnFile old name (IsRead start room (Ok count))
+at_place old files name room start at n count same here is read = rw (← same, ← here, ← is) read
+
+-- the bytes read so far after one more read, where the files are told
+pub read_step : (old files : Option Files) (name front room more : List ℕ) (start at n size : ℕ)
+    → files ≡ old → at ≡ start → more ≡ front ++ take n room → size ≡ start + n
+    → IfSome old (λ told. front ≡ take start (content told name)) → OnFile files name (IsRead at room (Ok n))
+    → IfSome old (λ told. more ≡ take size (content told name))
+read_step None files name front room more start at n size same here longer sum before read = tt
+read_step (Some told) files name front room more start at n size same here longer sum before read =
+    let now = at_place (Some told) files name room start at n n same here refl read in
+    longer ∙ next_bytes (told name) front room start n before now ∙ ap (λ (k : ℕ). take k (content told name)) (sym sum)
+
+-- the bytes read so far are the file, where a read with room for some reads none
+pub read_end : (old files : Option Files) (name front room : List ℕ) (start at n limit : ℕ)
+    → files ≡ old → at ≡ start → n ≡ 0 → 0 < length room → length front ≤ limit
+    → IfSome old (λ told. front ≡ take start (content told name)) → OnFile files name (IsRead at room (Ok n))
+    → OnFile old name (λ file. IsSomeAnd file (λ bytes. (front ≡ bytes) × (length bytes ≤ limit)))
+read_end None files name front room start at n limit same here none some within before read = tt
+read_end (Some told) files name front room start at n limit same here none some within before read =
+    last_bytes (told name) front room start limit some within before (at_place (Some told) files name room start at n 0 same here none read)

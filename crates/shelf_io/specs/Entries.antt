@@ -1,6 +1,7 @@
 -- Files in memory, as the list of those that were made, and text in memory.
 use Rattle.std.specs.Prelude.{◌≡◌, ◌≢◌, ℕ, ◌<◌, List, [], ◌∷◌, length, if◌then◌else◌, Some, None, bytes_eq, All, HoldsAt}
 use Rattle.std.specs.List.{AllWithin}
+use Rattle.shelf_io.specs.Calls.{Calls}
 use Rattle.shelf_io.specs.Shelf.{Files}
 
 -- a file: its name and its bytes
@@ -18,9 +19,16 @@ abbrev pub files_of : List Entry → Files
 files_of [] name = None
 files_of (entry ∷ rest) name = if bytes_eq name entry.name then Some entry.bytes else files_of rest name
 
--- a sink in memory: all that it has taken, and how many puts failed
+-- the same with some calls that fail by their number, and a count of faults of its own
+pub record Failing : Type 0 where
+  pub inner : Kept
+  pub calls : Calls
+  pub faults : ℕ
+
+-- a sink in memory: all that it has taken, its puts, and how many of them failed
 pub record Taken : Type 0 where
   pub text : List ℕ
+  pub calls : Calls
   pub faults : ℕ
 
 -- no file of the list has the name

@@ -1,21 +1,20 @@
--- Counts of faults: what a call's answer says of the count of the shelf or sink that it was made on.
+-- Counts, and what a call's answer says of the count of faults of the shelf or sink that it was made on.
 use Rattle.std.specs.Prelude.{◌≡◌, ℕ, ◌+◌, ◌-◌, ◌^◌, ◌≤◌, min, Result, Ok, Err}
 use Rattle.shelf_io.specs.declared.outside.Unread.{Unread}
 use Rattle.shelf_io.specs.declared.outside.Unread.TheVariants.{Failed, Missing}
 
 -- the greatest count
-abbrev pub most_faults : ℕ
-most_faults = 2 ^ 64 - 1
+abbrev pub greatest_count : ℕ
+greatest_count = 2 ^ 64 - 1
 
 -- the count rose: it is greater than before, or stands at the greatest count
 abbrev pub Rose : ℕ → ℕ → Type 0
-Rose before now = min (before + 1) most_faults ≤ now
+Rose before now = min (before + 1) greatest_count ≤ now
 
--- a fault was counted: the count is no lower and no greater than a count may be, and it rose
+-- one more was counted, up to the greatest count: the count is no lower, and no greater than one more
 pub record Counted (before now : ℕ) : Type 0 where
   pub later : before ≤ now
-  pub rose : Rose before now
-  pub most : now ≤ most_faults
+  pub once : now ≡ min (before + 1) greatest_count
 
 -- an error is a fault that was counted, and any other answer leaves the count
 abbrev pub Counts : {T E : Type 0} → ℕ → ℕ → Result T E → Type 0

@@ -41,6 +41,11 @@ IsRead at room (Ok n) file = IsSomeAnd file (Reads at room n)
 IsRead at room (Err Failed) file = Unit {0}
 IsRead at room (Err Missing) file = file ≡ None
 
+-- what a call of read keeps of the room: what stands behind the bytes read, and after an error all of it
+abbrev pub KeepsRoom : {E : Type 0} → List ℕ → List ℕ → Result ℕ E → Type 0
+KeepsRoom old new (Ok n) = drop n new ≡ drop n old
+KeepsRoom old new (Err error) = new ≡ old
+
 -- the files after a call of make, where they are told: the file is empty, and after an error that or unchanged
 abbrev pub IsMade : {T E : Type 0} → List ℕ → Option Files → Option Files → Result T E → Type 0
 IsMade name old new (Ok value) = new ≡ option_map (λ files. with_file files name []) old

@@ -1,10 +1,13 @@
-ghost use Rattle.std.specs.Prelude.{◌≡◌, ◌≢◌, ℕ, ◌<◌, ◌≤◌, List, [], ◌++◌, length, take, Some, Err, IfOk, OnOk, OnErr, MatchOption, option_copied};
-ghost use Rattle.shelf_io.specs.Faults.{Counted, CountsUnread};
-ghost use Rattle.shelf_io.specs.Shelf.{with_file, appended, OnFile, IsLength, IsRead, Reads};
+ghost use Rattle.std.specs.Prelude.{◌≡◌, ◌-◌, [], ◌++◌, length, take, drop, min, Some, IfOk, IsErr, OnOk, OnErr, MatchOption, option_copied};
+ghost use Rattle.shelf_io.specs.Faults.{Counted, Counts};
+ghost use Rattle.shelf_io.specs.Calls.{FailsNext, OneMore};
+ghost use Rattle.shelf_io.specs.Shelf.{with_file, appended};
 ghost use Rattle.shelf_io.specs.Sink.{IsTaken};
-ghost use Rattle.shelf_io.specs.Entries.{Entry, Kept, Taken, files_of, IsNowhere, IsFirstAt};
+ghost use Rattle.shelf_io.specs.Entries.{files_of, IsNowhere, IsFirstAt};
+ghost use Rattle.shelf_io.specs.InMemory.{IsLengthCall, IsReadCall, IsMakeCall, IsPutCall};
 
-use crate::outside::{Failed, Shelf, TextSink, Unread, with_fault};
+use crate::failing_calls::FailingCalls;
+use crate::outside::{Failed, Shelf, TextSink, Unread, one_more};
 use std::alloc::Global;
 use std::marker::Model;
 use symbol_base::NoMemory;
@@ -112,7 +115,7 @@ impl MemoryShelf {
         ensures entries { self.new.entries ≡ self.old.entries }
         ensures counted { Counted self.old.faults self.new.faults }
     {
-        self.faults = with_fault(self.faults);
+        self.faults = one_more(self.faults);
         Failed
     }
 
@@ -135,10 +138,7 @@ impl Shelf for MemoryShelf {
 
     /// Never fails.
     fn length(&mut self, name: &str) -> Result<u64, Unread>
-        ensures value { OnFile (Some (files_of self.old.entries)) name.now (IsLength result) }
-        ensures same { self.new ≡ self.old }
-        ensures count { CountsUnread self.old.faults self.new.faults result }
-        ensures sure { result ≢ Err Unread.Failed }
+        ensures { IsLengthCall name.now self.old self.new result }
     {
         match self.file(name) {
             Some(bytes) => Ok(bytes.len() as u64),
@@ -146,13 +146,9 @@ impl Shelf for MemoryShelf {
         }
     }
 
-    /// Never fails.
+    /// Never fails, and reads all bytes from `at` on that find room.
     fn read(&mut self, name: &str, at: u64, room: &mut [u8]) -> Result<usize, Unread>
-        ensures bound { IfOk result (λ n. n ≤ length room.old) }
-        ensures bytes { OnFile (Some (files_of self.old.entries)) name.now (IsRead at room.new result) }
-        ensures same { self.new ≡ self.old }
-        ensures count { CountsUnread self.old.faults self.new.faults result }
-        ensures sure { result ≢ Err Unread.Failed }
+        ensures { IsReadCall name.now at room.old room.new self.old self.new result }
     {
         match self.file(name) {
             Some(bytes) => Ok(copy_from(bytes, at, room)),
@@ -160,8 +156,10 @@ impl Shelf for MemoryShelf {
         }
     }
 
-    /// Fails only for a refused growth.
-    fn make(&mut self, name: &str) -> Result<(), Failed> {
+    /// Fails only for a refused growth, and then changes no file.
+    fn make(&mut self, name: &str) -> Result<(), Failed>
+        ensures { IsMakeCall name.now self.old self.new result }
+    {
         let empty = Vec::new(self.alloc);
         if self.keep(name, empty).is_err() {
             return Err(self.fault());
@@ -169,8 +167,10 @@ impl Shelf for MemoryShelf {
         Ok(())
     }
 
-    /// Fails only for a refused growth.
-    fn put(&mut self, name: &str, bytes: &[u8]) -> Result<usize, Failed> {
+    /// Puts all bytes. Fails only for a refused growth, and then changes no file.
+    fn put(&mut self, name: &str, bytes: &[u8]) -> Result<usize, Failed>
+        ensures { IsPutCall name.now bytes.now self.old self.new result }
+    {
         if self.extend(name, bytes).is_err() {
             return Err(self.fault());
         }
@@ -180,8 +180,8 @@ impl Shelf for MemoryShelf {
 
 /// Copies bytes from place `at` on to the front of the room, and answers how many.
 fn copy_from(bytes: &[u8], at: u64, room: &mut [u8]) -> usize
-    ensures bound { result ≤ length room.old }
-    ensures reads { Reads at room.new result bytes.now }
+    ensures count { result ≡ min (length room.old) (length bytes.now - at) }
+    ensures room { room.new ≡ take (length room.old) (drop at bytes.now) ++ drop (length bytes.now - at) room.old }
 {
     let from = bytes.len().min(at as usize);
     let rest = &bytes[from..];
@@ -190,10 +190,11 @@ fn copy_from(bytes: &[u8], at: u64, room: &mut [u8]) -> usize
     count
 }
 
-/// Text in memory.
+/// Text in memory, where some puts fail by their number: the first put is number 1.
 #[derive(Drop)]
 pub struct MemorySink {
     text: Vec<u8>,
+    calls: FailingCalls,
     faults: u64,
 }
 
@@ -202,17 +203,20 @@ impl Model for MemorySink {
 
     ghost Value = { Taken };
 
-    ghost view = { λ sink. record { text = sink.text.items; faults = sink.faults } };
+    ghost view = { λ sink. record { text = sink.text.items; calls = sink.calls; faults = sink.faults } };
 }
 
 impl MemorySink {
-    /// A sink with no text.
-    pub fn new(alloc: Global) -> MemorySink
+    /// A sink with no text, on which the puts with these numbers fail.
+    pub fn new(alloc: Global, failing: Vec<u64>) -> MemorySink
         ensures text { result.text ≡ [] }
+        ensures made { result.calls.made ≡ 0 }
+        ensures failing { result.calls.failing ≡ failing.items }
         ensures faults { result.faults ≡ 0 }
     {
         MemorySink {
             text: Vec::new(alloc),
+            calls: FailingCalls::new(failing),
             faults: 0,
         }
     }
@@ -230,10 +234,16 @@ impl TextSink for MemorySink {
 
     ghost faults = { λ sink. sink.faults };
 
-    /// A refused growth is a fault.
-    fn put(&mut self, bytes: &[u8]) -> Result<usize, Failed> {
-        if self.text.extend_from_slice(bytes).is_err() {
-            self.faults = with_fault(self.faults);
+    /// Takes all of a piece. Fails where its number is listed, and else only for a refused growth.
+    fn put(&mut self, bytes: &[u8]) -> Result<usize, Failed>
+        ensures calls { OneMore self.old.calls self.new.calls }
+        ensures listed { FailsNext self.old.calls → IsErr result }
+        ensures whole { IfOk result (λ k. k ≡ length bytes.now) }
+        ensures takes { IsTaken bytes.now (Some self.old.text) (Some self.new.text) result }
+        ensures count { Counts self.old.faults self.new.faults result }
+    {
+        if self.calls.next_fails() || self.text.extend_from_slice(bytes).is_err() {
+            self.faults = one_more(self.faults);
             return Err(Failed);
         }
         Ok(bytes.len())

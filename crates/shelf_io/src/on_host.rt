@@ -1,12 +1,42 @@
 ghost use Rattle.std.specs.Prelude.{◌≡◌, ℕ, ◌≤◌, None, length, IfOk};
 ghost use Rattle.shelf_io.specs.Faults.{Counted};
+ghost use Rattle.shelf_io.specs.Shelf.{KeepsRoom};
 
-use crate::outside::{Failed, Shelf, TextSink, Unread, with_fault};
+use crate::outside::{Failed, Shelf, TextSink, Unread, one_more};
 use std::fs::OpenOptions;
 use std::io::{ErrorKind, Read, Seek, SeekFrom, Write};
 use std::marker::Model;
 use std::rt::Files;
 use std::{fs, io};
+
+/// How many bytes are asked of the system at a time.
+const PIECE: usize = 4096;
+
+#[derive(Drop)]
+struct Input<F> {
+    name: String,
+    file: F,
+    at: u64,
+}
+
+impl<F: Read + Seek> Input<F> {
+    /// Reads from byte `at` on. No seek is made where the last read ended there: a pipe has none.
+    fn read_at(&mut self, at: u64, room: &mut [u8]) -> io::Result<usize>
+        ensures bound { IfOk result (λ n. n ≤ length room.old) }
+        ensures room { KeepsRoom room.old room.new result }
+    {
+        if self.at != at {
+            self.at = self.file.seek(SeekFrom::Start(at))?;
+        }
+        // a failed read may leave anything in the room that the system was given
+        let mut piece = [0; PIECE];
+        let asked = room.len().min(PIECE);
+        let count = self.file.read(&mut piece[..asked])?;
+        room[..count].copy_from_slice(&piece[..count]);
+        self.at = self.at.saturating_add(count as u64);
+        Ok(count)
+    }
+}
 
 #[derive(Drop)]
 struct Output<F> {
@@ -16,10 +46,13 @@ struct Output<F> {
 
 /// The files of the system. It tells nothing of them, so clauses see its count of faults alone.
 ///
-/// The file of the last make or put stays open, and later puts of the same name append to it.
+/// The file of the last read stays open, and a read that goes on where that one ended needs no seek: so a
+/// pipe can be read. The file of the last make or put stays open too, and later puts of the same name
+/// append to it.
 #[derive(Drop)]
 pub struct HostShelf<R: Files + AllocGlobal> {
     rt: R,
+    input: Option<Input<R::File>>,
     output: Option<Output<R::File>>,
     faults: u64,
 }
@@ -37,6 +70,7 @@ impl<R: Files + AllocGlobal> HostShelf<R> {
     {
         HostShelf {
             rt,
+            input: None,
             output: None,
             faults: 0,
         }
@@ -45,7 +79,7 @@ impl<R: Files + AllocGlobal> HostShelf<R> {
     fn fault(&mut self) -> Failed
         ensures { Counted self.old self.new }
     {
-        self.faults = with_fault(self.faults);
+        self.faults = one_more(self.faults);
         Failed
     }
 
@@ -60,12 +94,42 @@ impl<R: Files + AllocGlobal> HostShelf<R> {
         Unread::Failed
     }
 
-    fn read_at(&self, name: &str, at: u64, room: &mut [u8]) -> io::Result<usize>
-        ensures { IfOk result (λ n. n ≤ length room.old) }
+    fn open_start(&self, name: &str) -> io::Result<Input<R::File>> {
+        let owned = String::from_str(self.rt.alloc(), name)?;
+        let file = fs::open(&self.rt, name)?;
+        Ok(Input {
+            name: owned,
+            file,
+            at: 0,
+        })
+    }
+
+    /// Reads from the file that is open for it, or from one opened anew. A failed read closes it.
+    fn read_on(&mut self, name: &str, at: u64, room: &mut [u8]) -> io::Result<usize>
+        ensures bound { IfOk result (λ n. n ≤ length room.old) }
+        ensures room { KeepsRoom room.old room.new result }
+        ensures same { self.new ≡ self.old }
     {
-        let mut file = fs::open(&self.rt, name)?;
-        file.seek(SeekFrom::Start(at))?;
-        file.read(room)
+        let mut input = match self.input.take() {
+            Some(input) if input.name.as_str() == name => input,
+            _ => self.open_start(name)?,
+        };
+        let count = input.read_at(at, room)?;
+        self.input = Some(input);
+        Ok(count)
+    }
+
+    /// Closes the file that is read, where it is the one of this name, since its bytes change.
+    fn close_input(&mut self, name: &str)
+        ensures { self.new ≡ self.old }
+    {
+        let is_read = match &self.input {
+            Some(input) => input.name.as_str() == name,
+            None => false,
+        };
+        if is_read {
+            self.input = None;
+        }
     }
 
     fn create(&self, name: &str) -> io::Result<Output<R::File>> {
@@ -118,13 +182,14 @@ impl<R: Files + AllocGlobal> Shelf for HostShelf<R> {
     }
 
     fn read(&mut self, name: &str, at: u64, room: &mut [u8]) -> Result<usize, Unread> {
-        match self.read_at(name, at, room) {
+        match self.read_on(name, at, room) {
             Ok(count) => Ok(count),
             Err(error) => Err(self.unread(error)),
         }
     }
 
     fn make(&mut self, name: &str) -> Result<(), Failed> {
+        self.close_input(name);
         match self.create(name) {
             Ok(output) => {
                 self.output = Some(output);
@@ -136,6 +201,7 @@ impl<R: Files + AllocGlobal> Shelf for HostShelf<R> {
 
     /// Fails where the system takes nothing of a piece that isn't empty.
     fn put(&mut self, name: &str, bytes: &[u8]) -> Result<usize, Failed> {
+        self.close_input(name);
         match self.append(name, bytes) {
             Ok(count) if count > 0 || bytes.is_empty() => Ok(count),
             _ => Err(self.fault()),
@@ -178,7 +244,7 @@ impl<R: Print> TextSink for HostSink<R> {
         match io::writer(&self.rt).write(bytes) {
             Ok(count) if count > 0 => Ok(count),
             _ => {
-                self.faults = with_fault(self.faults);
+                self.faults = one_more(self.faults);
                 Err(Failed)
             }
         }

@@ -1,6 +1,7 @@
-ghost use Rattle.std.specs.Prelude.{◌≡◌, ℕ, ◌<◌, ◌≤◌, List, Option, length, IfOk};
+ghost use Rattle.std.specs.Prelude.{◌≡◌, ℕ, ◌<◌, ◌≤◌, ⊤, List, Option, Result, length, IfOk};
+ghost use Rattle.shelf_io.specs.declared.outside.Unread.{Unread};
 ghost use Rattle.shelf_io.specs.Faults.{Counted, Counts, CountsUnread};
-ghost use Rattle.shelf_io.specs.Shelf.{Files, OnFile, IsLength, IsRead, IsMade, IsPut};
+ghost use Rattle.shelf_io.specs.Shelf.{Files, OnFile, IsLength, IsRead, KeepsRoom, IsMade, IsPut};
 ghost use Rattle.shelf_io.specs.Sink.{IsTaken};
 
 /// The outside failed, and the fault was counted.
@@ -25,6 +26,9 @@ pub trait Shelf {
 
     ghost faults: { Self → ℕ };
 
+    // what a read tells, if anything: the shelf before it, the name, the place, the answer, the shelf after it
+    ghost read_gives: { Self → List ℕ → ℕ → Result ℕ Unread → Self → Type 0 } = { λ _ _ _ _ _. ⊤ };
+
     /// The number of bytes of the file.
     fn length(&mut self, name: &str) -> Result<u64, Unread>
         ensures value { OnFile (files self.old) name.now (IsLength result) }
@@ -32,10 +36,13 @@ pub trait Shelf {
         ensures count { CountsUnread (faults self.old) (faults self.new) result };
 
     /// Puts the next bytes of the file, from byte `at` on, at the front of the room. Answers how many,
-    /// and 0 only where the room is empty or the file has no byte at `at`.
+    /// and 0 only where the room is empty or the file has no byte at `at`. What stands behind the bytes
+    /// read stays, and an error leaves the whole room.
     fn read(&mut self, name: &str, at: u64, room: &mut [u8]) -> Result<usize, Unread>
         ensures bound { IfOk result (λ n. n ≤ length room.old) }
         ensures bytes { OnFile (files self.old) name.now (IsRead at room.new result) }
+        ensures room { KeepsRoom room.old room.new result }
+        ensures gives { read_gives self.old name.now at result self.new }
         ensures same { files self.new ≡ files self.old }
         ensures count { CountsUnread (faults self.old) (faults self.new) result };
 
@@ -71,9 +78,9 @@ pub trait TextSink {
         ensures count { Counts (faults self.old) (faults self.new) result };
 }
 
-/// The count after one more fault, which stays at the greatest count.
-pub(crate) fn with_fault(faults: u64) -> u64
-    ensures { Counted faults result }
+/// The count after one more, which stays at the greatest count.
+pub(crate) fn one_more(count: u64) -> u64
+    ensures { Counted count result }
 {
-    faults.saturating_add(1)
+    count.saturating_add(1)
 }

@@ -1,14 +1,16 @@
 ghost use Rattle.std.specs.Prelude.{None};
-ghost use Rattle.shelf_io.specs.Faults.{Counted, Counts};
 
+use crate::failing::FailingShelf;
 use crate::in_memory::{MemoryShelf, MemorySink};
 use crate::on_host::{HostShelf, HostSink};
 use crate::outside::{Failed, Shelf, TextSink, Unread};
 use crate::whole_files::{ReadAllFault, put_all, read_all};
 use std::alloc::Global;
-use std::fs;
+use std::io::Write;
+use std::os::fd::AsRawFd;
 use std::process::Abort;
 use std::test::Fail;
+use std::{fs, io};
 use symbol_base::NoMemory;
 
 fn holds(shelf: &MemoryShelf, name: &str, bytes: &[u8]) -> bool {
@@ -90,123 +92,174 @@ fn whole_files_are_read_up_to_the_limit(rt: HostRuntime) -> Result<(), NoMemory>
     Ok(())
 }
 
-/// A shelf in memory that tells nothing, takes at most three bytes of a piece, and fails at one call.
+/// What four calls on a file answer where some fail by their number: whether each fails, and what is left of
+/// the file at the end.
+fn check_failing(
+    rt: &impl Abort,
+    alloc: Global,
+    listed: &[u64],
+    fails: [bool; 4],
+    left: &[u8],
+) -> Result<(), NoMemory> {
+    let mut inner = MemoryShelf::new(alloc);
+    inner.add("file", b"x")?;
+    let mut shelf = FailingShelf::new(inner, Vec::from_slice(alloc, listed)?);
+    let mut room = [0; 9];
+    assert_eq!(rt; shelf.put("file", b"01") == Err(Failed), fails[0]);
+    assert_eq!(rt; shelf.length("file") == Err(Unread::Failed), fails[1]);
+    assert_eq!(rt;
+        shelf.read("file", 0, &mut room) == Err(Unread::Failed),
+        fails[2]
+    );
+    assert_eq!(rt; shelf.make("file") == Err(Failed), fails[3]);
+    assert!(rt; holds(shelf.inner(), "file", left));
+    Ok(())
+}
+
+#[test]
+fn listed_calls_fail_and_no_others(rt: HostRuntime) -> Result<(), NoMemory> {
+    let alloc = rt.alloc();
+    check_failing(&rt, alloc, &[], [false, false, false, false], b"")?;
+    check_failing(&rt, alloc, &[3], [false, false, true, false], b"")?;
+    check_failing(&rt, alloc, &[4, 2], [false, true, false, true], b"x01")?;
+    check_failing(&rt, alloc, &[1, 4], [true, false, false, true], b"x")?;
+    check_failing(
+        &rt,
+        alloc,
+        &[0, 5, u64::MAX],
+        [false, false, false, false],
+        b"",
+    )?;
+    Ok(())
+}
+
+/// A shelf that tells nothing, gives one byte at a time, takes at most three of a piece, and has no file
+/// after some reads.
 #[derive(Drop)]
 struct ShyShelf {
-    inner: MemoryShelf,
-    calls: u32,
-    failing: u32,
-    faults: u64,
+    inner: FailingShelf,
+    reads: u64,
+    lasting: u64,
 }
 
 impl ShyShelf {
-    fn new(inner: MemoryShelf, failing: u32) -> ShyShelf {
-        ShyShelf {
-            inner,
-            calls: 0,
-            failing,
-            faults: 0,
-        }
-    }
-}
-
-impl ShyShelf {
-    fn turn(&mut self) -> Result<(), Failed>
-        ensures { Counts self.old.faults self.new.faults result }
-    {
-        self.calls = self.calls.saturating_add(1);
-        if self.calls == self.failing {
-            return Err(self.fault());
-        }
-        Ok(())
-    }
-
-    fn fault(&mut self) -> Failed
-        ensures { Counted self.old.faults self.new.faults }
-    {
-        self.faults = self.faults.saturating_add(1);
-        Failed
+    fn new(
+        alloc: Global,
+        inner: MemoryShelf,
+        failing: u64,
+        lasting: u64,
+    ) -> Result<ShyShelf, NoMemory> {
+        Ok(ShyShelf {
+            inner: FailingShelf::new(inner, Vec::from_slice(alloc, &[failing])?),
+            reads: 0,
+            lasting,
+        })
     }
 }
 
 impl Shelf for ShyShelf {
     ghost files = { λ _. None };
 
-    ghost faults = { λ shelf. shelf.faults };
+    ghost faults = { λ shelf. shelf.inner.faults };
 
     fn length(&mut self, name: &str) -> Result<u64, Unread> {
-        if self.turn().is_err() {
-            return Err(Unread::Failed);
-        }
-        self.inner.length(name).map_err(|_| Unread::Missing)
+        self.inner.length(name)
     }
 
     fn read(&mut self, name: &str, at: u64, room: &mut [u8]) -> Result<usize, Unread> {
-        if self.turn().is_err() {
-            return Err(Unread::Failed);
+        self.reads = self.reads.saturating_add(1);
+        if self.reads > self.lasting {
+            return Err(Unread::Missing);
         }
-        match self.inner.read(name, at, room) {
-            Ok(count) => Ok(count),
-            Err(_) => Err(Unread::Missing),
-        }
+        let mut byte = [0];
+        let asked = room.len().min(1);
+        let count = self.inner.read(name, at, &mut byte[..asked])?;
+        room[..count].copy_from_slice(&byte[..count]);
+        Ok(count)
     }
 
     fn make(&mut self, name: &str) -> Result<(), Failed> {
-        self.turn()?;
-        match self.inner.make(name) {
-            Ok(()) => Ok(()),
-            Err(_) => Err(self.fault()),
-        }
+        self.inner.make(name)
     }
 
     fn put(&mut self, name: &str, bytes: &[u8]) -> Result<usize, Failed> {
-        self.turn()?;
-        match self.inner.put(name, &bytes[..bytes.len().min(3)]) {
-            Ok(count) => Ok(count),
-            Err(_) => Err(self.fault()),
-        }
+        self.inner.put(name, &bytes[..bytes.len().min(3)])
     }
 }
 
-#[test]
-fn a_file_is_read_to_the_read_that_gives_nothing(rt: HostRuntime) -> Result<(), NoMemory> {
-    let mut short = ShyShelf::new(shelf_with(rt.alloc(), 18)?, 0);
-    let read = read_all(rt.alloc(), &mut short, "file", 18);
-    assert!(rt; read.is_ok());
-    assert_eq!(rt; short.calls, 2);
-    let mut long = ShyShelf::new(shelf_with(rt.alloc(), 5000)?, 3);
-    let read = read_all(rt.alloc(), &mut long, "file", 5000).err();
-    assert_eq!(rt; read, Some(ReadAllFault::Failed));
-    assert_eq!(rt; long.faults, 1);
-    let mut late = ShyShelf::new(shelf_with(rt.alloc(), 5000)?, 4);
-    let read = read_all(rt.alloc(), &mut late, "file", 5000);
-    assert!(rt; read.is_ok());
-    assert_eq!(rt; late.calls, 3);
+/// What reading three bytes one at a time answers, and how many reads it makes, where one read fails and the
+/// file lasts for some.
+fn check_reads(
+    rt: &impl Abort,
+    alloc: Global,
+    failing: u64,
+    lasting: u64,
+    fault: Option<ReadAllFault>,
+    reads: u64,
+) -> Result<(), NoMemory> {
+    let mut shelf = ShyShelf::new(alloc, shelf_with(alloc, 3)?, failing, lasting)?;
+    match read_all(alloc, &mut shelf, "file", 3) {
+        Ok(bytes) => {
+            assert!(rt; fault.is_none());
+            assert!(rt; holds(shelf.inner.inner(), "file", &bytes));
+        }
+        Err(answered) => assert_eq!(rt; fault, Some(answered)),
+    }
+    assert_eq!(rt; shelf.reads, reads);
     Ok(())
 }
 
 #[test]
-fn all_bytes_are_put_piece_by_piece(rt: HostRuntime) {
-    let mut shelf = ShyShelf::new(MemoryShelf::new(rt.alloc()), 0);
-    assert_eq!(rt; put_all(&mut shelf, "none", b""), Ok(()));
-    assert!(rt; shelf.inner.file("none").is_none());
-    assert_eq!(rt; put_all(&mut shelf, "text", b"01011101"), Ok(()));
-    assert_eq!(rt; shelf.calls, 3);
-    assert_eq!(rt; put_all(&mut shelf, "text", b"1"), Ok(()));
-    assert!(rt; holds(&shelf.inner, "text", b"010111011"));
-    let mut broken = ShyShelf::new(MemoryShelf::new(rt.alloc()), 2);
-    assert_eq!(rt; put_all(&mut broken, "text", b"01011101"), Err(Failed));
-    assert!(rt; holds(&broken.inner, "text", b"010"));
-    assert_eq!(rt; broken.faults, 1);
+fn a_file_is_read_to_the_read_that_gives_nothing(rt: HostRuntime) -> Result<(), NoMemory> {
+    let alloc = rt.alloc();
+    check_reads(&rt, alloc, 5, 4, None, 4)?;
+    check_reads(&rt, alloc, 4, 4, Some(ReadAllFault::Failed), 4)?;
+    check_reads(&rt, alloc, 2, 4, Some(ReadAllFault::Failed), 2)?;
+    check_reads(&rt, alloc, 5, 3, Some(ReadAllFault::Missing), 4)?;
+    check_reads(&rt, alloc, 5, 1, Some(ReadAllFault::Missing), 2)?;
+    check_reads(&rt, alloc, 5, 0, Some(ReadAllFault::Missing), 1)?;
+    Ok(())
 }
 
 #[test]
-fn text_is_kept_in_memory(rt: HostRuntime) {
-    let mut sink = MemorySink::new(rt.alloc());
-    assert_eq!(rt; sink.put(b"states 3\n"), Ok(9));
-    assert_eq!(rt; sink.put(b""), Ok(0));
-    assert_eq!(rt; sink.put(b"ok\n"), Ok(3));
-    assert_eq!(rt; sink.text(), b"states 3\nok\n".as_slice());
+fn all_bytes_are_put_piece_by_piece(rt: HostRuntime) -> Result<(), NoMemory> {
+    let alloc = rt.alloc();
+    let mut shelf = ShyShelf::new(alloc, MemoryShelf::new(alloc), 5, 0)?;
+    assert_eq!(rt; put_all(&mut shelf, "none", b""), Ok(()));
+    assert!(rt; shelf.inner.inner().file("none").is_none());
+    assert_eq!(rt; put_all(&mut shelf, "text", b"01011101"), Ok(()));
+    assert_eq!(rt; put_all(&mut shelf, "text", b"1"), Ok(()));
+    assert!(rt; holds(shelf.inner.inner(), "text", b"010111011"));
+    let mut broken = ShyShelf::new(alloc, MemoryShelf::new(alloc), 2, 0)?;
+    assert_eq!(rt; put_all(&mut broken, "text", b"01011101"), Err(Failed));
+    assert!(rt; holds(broken.inner.inner(), "text", b"010"));
+    Ok(())
+}
+
+/// What is left of three pieces where some puts fail by their number.
+fn check_puts(
+    rt: &impl Abort,
+    alloc: Global,
+    listed: &[u64],
+    taken: &[u8],
+) -> Result<(), NoMemory> {
+    let mut sink = MemorySink::new(alloc, Vec::from_slice(alloc, listed)?);
+    assert_eq!(rt; sink.put(b"states 3\n") == Err(Failed), listed.contains(&1));
+    assert_eq!(rt; sink.put(b"") == Err(Failed), listed.contains(&2));
+    assert_eq!(rt; sink.put(b"ok\n") == Err(Failed), listed.contains(&3));
+    assert_eq!(rt; sink.text(), taken);
+    Ok(())
+}
+
+#[test]
+fn text_is_kept_in_memory_but_for_listed_puts(rt: HostRuntime) -> Result<(), NoMemory> {
+    let alloc = rt.alloc();
+    check_puts(&rt, alloc, &[], b"states 3\nok\n")?;
+    check_puts(&rt, alloc, &[2], b"states 3\nok\n")?;
+    check_puts(&rt, alloc, &[3, 2], b"states 3\n")?;
+    check_puts(&rt, alloc, &[1], b"ok\n")?;
+    check_puts(&rt, alloc, &[0, 4], b"states 3\nok\n")?;
+    Ok(())
 }
 
 #[test]
@@ -238,6 +291,45 @@ fn the_host_reads_and_makes_files(rt: HostRuntime) -> Result<(), Fail> {
     assert_eq!(rt; shelf.length("third.tmp"), Ok(0));
     fs::remove_file(&rt, "third.tmp")?;
     assert_eq!(rt; shelf.read("third.tmp", 0, &mut room), Err(Unread::Missing));
+    Ok(())
+}
+
+fn check_read(rt: &impl Abort, shelf: &mut impl Shelf, name: &str, at: u64, bytes: &[u8]) {
+    let mut room = [b'.'; 3];
+    assert_eq!(rt; shelf.read(name, at, &mut room), Ok(bytes.len()));
+    assert_eq!(rt; &room[..bytes.len()], bytes);
+}
+
+#[test]
+fn the_host_reads_on_and_elsewhere(rt: HostRuntime) -> Result<(), Fail> {
+    let mut shelf = HostShelf::new(rt.clone()?);
+    assert_eq!(rt; shelf.put("fourth.tmp", b"01011"), Ok(5));
+    assert_eq!(rt; shelf.put("fifth.tmp", b"1"), Ok(1));
+    check_read(&rt, &mut shelf, "fourth.tmp", 0, b"010");
+    check_read(&rt, &mut shelf, "fourth.tmp", 3, b"11");
+    check_read(&rt, &mut shelf, "fourth.tmp", 5, b"");
+    assert_eq!(rt; shelf.put("fourth.tmp", b"0"), Ok(1));
+    check_read(&rt, &mut shelf, "fourth.tmp", 5, b"0");
+    check_read(&rt, &mut shelf, "fourth.tmp", 1, b"101");
+    check_read(&rt, &mut shelf, "fifth.tmp", 0, b"1");
+    check_read(&rt, &mut shelf, "fourth.tmp", 4, b"10");
+    assert_eq!(rt; shelf.make("fourth.tmp"), Ok(()));
+    check_read(&rt, &mut shelf, "fourth.tmp", 0, b"");
+    fs::remove_file(&rt, "fourth.tmp")?;
+    fs::remove_file(&rt, "fifth.tmp")?;
+    Ok(())
+}
+
+#[test]
+fn the_host_reads_a_pipe(rt: HostRuntime) -> Result<(), Fail> {
+    let (reader, mut writer) = io::pipe(&rt)?;
+    let bytes = vec![in rt.alloc(); 7; 10_000]?;
+    writer.write_all(&bytes)?;
+    drop(writer);
+    let name = format!(in rt.alloc(); "/dev/fd/{}", reader.as_raw_fd())?;
+    let mut shelf = HostShelf::new(rt.clone()?);
+    let read = read_all(rt.alloc(), &mut shelf, &name, 10_000);
+    assert_eq!(rt; read.ok().ok_or("pipe")?.as_slice(), bytes.as_slice());
     Ok(())
 }
 

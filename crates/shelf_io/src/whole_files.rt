@@ -1,5 +1,6 @@
 ghost use Rattle.std.specs.Prelude.{◌≡◌};
 ghost use Rattle.shelf_io.specs.Faults.{Counts};
+ghost use Rattle.shelf_io.specs.Reads.{EndsReads};
 ghost use Rattle.shelf_io.specs.Shelf.{OnFile};
 ghost use Rattle.shelf_io.specs.WholeFile.{IsWhole, KeepsLimit, CountsReadAll, IsPutAll};
 
@@ -23,6 +24,9 @@ pub enum ReadAllFault {
 }
 
 /// All bytes of a file of at most `limit` bytes. No file changes.
+///
+/// Reads follow one another from the start on until one gives nothing, and none is made twice: the first
+/// error is the answer.
 pub fn read_all<F: Shelf>(
     alloc: Global,
     shelf: &mut F,
@@ -31,6 +35,7 @@ pub fn read_all<F: Shelf>(
 ) -> Result<Vec<u8>, ReadAllFault>
     ensures whole { OnFile (F.files shelf.old) name.now (IsWhole limit result) }
     ensures limit { KeepsLimit limit result }
+    ensures reads { EndsReads F.read_gives name.now limit shelf.old shelf.new result }
     ensures same { F.files shelf.new ≡ F.files shelf.old }
     ensures count { CountsReadAll (F.faults shelf.old) (F.faults shelf.new) result }
 {

@@ -1,3 +1,4 @@
 pub mod BitsLemmas
 pub mod BlockLemmas
 pub mod DecimalLemmas
+pub mod Walks

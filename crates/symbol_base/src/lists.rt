@@ -57,6 +57,13 @@ impl ByteList {
         })
     }
 
+    /// The list of the bytes of a vector, which keeps its memory.
+    pub fn from_vec(bytes: Vec<u8>) -> ByteList
+        ensures { result ≡ bytes.items }
+    {
+        ByteList { bytes }
+    }
+
     /// The bytes.
     pub fn as_slice(&self) -> &[u8]
         ensures { result.now ≡ self.now }

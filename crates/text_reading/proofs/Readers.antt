@@ -97,18 +97,18 @@ field_reads end least most stop small = record {
 symbol_digit : (alphabet symbol : ℕ) → symbol < alphabet → is_symbol_digit alphabet (48 + symbol) ≡ true
 symbol_digit alphabet symbol below = and_from _ _ (le-leb 48 (48 + symbol) (omega arith)) (lt-ltb (48 + symbol - 48) alphabet (omega arith))
 
-digits_of_word : (alphabet : ℕ) (word : List ℕ) → AllByRecursion (λ symbol. symbol < alphabet) word → list_all (is_symbol_digit alphabet) (map (λ symbol. 48 + symbol) word) ≡ true
+pub digits_of_word : (alphabet : ℕ) (word : List ℕ) → AllByRecursion (λ symbol. symbol < alphabet) word → list_all (is_symbol_digit alphabet) (map (λ symbol. 48 + symbol) word) ≡ true
 digits_of_word alphabet [] over = refl
 digits_of_word alphabet (symbol ∷ word) over = and_from _ _ (symbol_digit alphabet symbol over.0) (digits_of_word alphabet word over.1)
 
-symbols_of_digits : (word : List ℕ) → map (λ byte. byte - 48) (map (λ symbol. 48 + symbol) word) ≡ word
+pub symbols_of_digits : (word : List ℕ) → map (λ byte. byte - 48) (map (λ symbol. 48 + symbol) word) ≡ word
 symbols_of_digits [] = refl
 symbols_of_digits (symbol ∷ word) =
     let same : (48 + symbol) - 48 ≡ symbol = omega arith in
     rw (same, symbols_of_digits word) refl
 
 -- bytes that are digits of symbols are the digits of their symbols
-digits_again : (alphabet : ℕ) (bytes : List ℕ) → list_all (is_symbol_digit alphabet) bytes ≡ true
+pub digits_again : (alphabet : ℕ) (bytes : List ℕ) → list_all (is_symbol_digit alphabet) bytes ≡ true
     → (map (λ symbol. 48 + symbol) (map (λ byte. byte - 48) bytes) ≡ bytes) × AllByRecursion (λ symbol. symbol < alphabet) (map (λ byte. byte - 48) bytes)
 digits_again alphabet [] h = (refl, tt)
 digits_again alphabet (byte ∷ bytes) h =

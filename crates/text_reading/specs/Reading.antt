@@ -1,5 +1,5 @@
 -- Reading text from its front: a reader gives a value and the bytes behind it, or nothing.
-use Rattle.std.specs.Prelude.{◌≡◌, ℕ, zero, suc, ◌+◌, ◌-◌, ◌==◌, ◌&&◌, ◌||◌, Bool, nat_lt, nat_le, List, [], ◌∷◌, length, take, drop, map, slice_index, Option, Some, None, if◌then◌else◌, nat_eq}
+use Rattle.std.specs.Prelude.{◌≡◌, ℕ, ◌-◌, ◌==◌, ◌&&◌, ◌||◌, Bool, nat_lt, nat_le, List, [], ◌∷◌, length, take, drop, map, slice_index, Option, Some, None, if◌then◌else◌, nat_eq}
 use Rattle.std.specs.List.{prefix_len, list_all, starts_with}
 use Rattle.std.specs.Str.{all_ascii_digits}
 use Rattle.std.specs.Char.{is_ascii_digit}
@@ -63,11 +63,3 @@ both first second bytes = do
   x ← first bytes
   y ← second x.0 x.1
   Some ((x.0, y.0), y.1)
-
--- so many items, each read by its place, from a place on
-unfoldable pub items_from : {A : Type 0} → (ℕ → List ℕ → Option (A × List ℕ)) → ℕ → ℕ → List ℕ → Option (List A × List ℕ)
-items_from item place zero bytes = Some ([], bytes)
-items_from item place (suc count) bytes = do
-  x ← item place bytes
-  others ← items_from item (place + 1) count x.1
-  Some (x.0 ∷ others.0, others.1)

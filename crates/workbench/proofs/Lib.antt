@@ -1,8 +1,4 @@
-pub mod FirstForm
-pub mod FirstFormLaws
-pub mod FirstFormTexts
-pub mod Refusals
+pub mod CodeLaws
+pub mod RowLaws
+pub mod TextLaws
 pub mod TextSteps
-pub mod WordTest
-pub mod EncodeEnds
-pub mod Exactness

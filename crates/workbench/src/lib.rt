@@ -1,15 +1,15 @@
 //! The commands of the program, from its words to its files.
 #![tactic(auto)]
 
+mod arguments;
+mod code_file;
+mod command;
 mod encode;
-mod first_form;
-mod laws;
 mod plain_text;
-mod status;
 #[cfg(test)]
 mod tests;
 mod top;
 
-pub use laws::texts_have_one_code;
-pub use status::{CodeFault, Status};
+pub use arguments::{end_with, run_arguments};
+pub use command_steps::{CodeFault, Status, status_line};
 pub use top::run;

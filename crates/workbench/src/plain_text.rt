@@ -2,7 +2,7 @@ ghost use Rattle.std.specs.Prelude.{◌≡◌, ℕ, ◌+◌, ◌*◌, ◌^◌, �
 ghost use Rattle.symbol_base.specs.Block.{symbols_of};
 ghost use Rattle.code_spec.specs.Code.{IsCode};
 ghost use Rattle.code_spec.specs.Output.{Writes};
-ghost use Rattle.code_spec.specs.PlainText.{word_count, file_words, plain_symbols, plain_length, plain_text};
+ghost use Rattle.code_spec.specs.PlainText.{word_count, file_words, data_words, plain_symbols, plain_length, plain_text};
 
 use code_model::Code;
 use std::alloc::Global;
@@ -65,7 +65,7 @@ fn encode_file(code: &Code, state: CodeName, file: &[u8], symbols: &mut Vec<u8>)
     ensures room_left { vec_capacity symbols.new ≡ vec_capacity symbols.old }
 {
     let p = code.p;
-    let count = words_of(p, file.len() as u64);
+    let count = count_words(p, file.len() as u64);
     let mut state = state;
     for j in 0..count {
         let word = take_word(file, u64::from(p) * j, p);
@@ -75,7 +75,7 @@ fn encode_file(code: &Code, state: CodeName, file: &[u8], symbols: &mut Vec<u8>)
 }
 
 /// How many data words of p bits a file of so many bytes has.
-fn words_of(p: u32, bytes: u64) -> u64
+fn count_words(p: u32, bytes: u64) -> u64
     requires one { 1 ≤ p }
     requires eight { p ≤ 8 }
     requires small { bytes ≤ 2 ^ 26 }
@@ -85,13 +85,21 @@ fn words_of(p: u32, bytes: u64) -> u64
     (8 * bytes + u64::from(p - 1)) / u64::from(p)
 }
 
+/// How many blocks the code writes for a file, lead-in and lead-out included.
+pub fn block_count(code: &Code, file: &[u8]) -> u64
+    requires { length file.now ≤ 2 ^ 26 }
+    ensures { result ≡ length (data_words code.now file.now) }
+{
+    u64::from(code.past) + count_words(code.p, file.len() as u64) + u64::from(code.ahead)
+}
+
 /// How many symbols the code writes for a file of so many bytes.
 pub fn symbol_count(code: &Code, bytes: u64) -> u64
     requires { bytes ≤ 2 ^ 26 }
     ensures count { result + 1 ≡ plain_length code.now bytes }
     ensures fits { result < 2 ^ 34 }
 {
-    let blocks = u64::from(code.past) + words_of(code.p, bytes) + u64::from(code.ahead);
+    let blocks = u64::from(code.past) + count_words(code.p, bytes) + u64::from(code.ahead);
     u64::from(code.q) * blocks
 }
 

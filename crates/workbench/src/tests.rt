@@ -1,5 +1,7 @@
-use crate::{CodeFault, Status, run};
-use shelf_io::{MemoryShelf, MemorySink};
+ghost use Rattle.std.specs.Prelude.{◌≡◌, ◌≤◌};
+
+use crate::{CodeFault, Status, run, run_arguments, status_line};
+use shelf_io::{FailingShelf, MemoryShelf, MemorySink, Shelf};
 use std::alloc::Global;
 use std::process::Abort;
 use std::test::Fail;
@@ -12,9 +14,13 @@ const NO_TWO_ZEROS: &[u8] =
 const NO_LAST_LINE_FEED: &[u8] =
     b"modcode 1\nalphabet 2\nd 0\nk 1\nforbid 0\ngraph 0 0\nrate 2 3\nwindow 1 1\nstates 3\n0 0 010 1\n0 1 110 1\n0 2 011 0\n0 3 011 2\n1 0 111 0\n1 1 110 1\n1 2 101 0\n1 3 101 2\n2 0 101 0\n2 1 101 2\n2 2 111 0\n2 3 111 2";
 
-/// The same with a forbidden word.
+/// The same with a leading zero in the second row.
+const LEADING_ZERO: &[u8] =
+    b"modcode 1\nalphabet 2\nd 0\nk 1\nforbid 0\ngraph 0 0\nrate 2 3\nwindow 1 1\nstates 3\n0 0 010 1\n0 01 110 1\n0 2 011 0\n0 3 011 2\n1 0 111 0\n1 1 110 1\n1 2 101 0\n1 3 101 2\n2 0 101 0\n2 1 101 2\n2 2 111 0\n2 3 111 2\n";
+
+/// The same constraint by a forbidden word, in place of the runs.
 const FORBIDDEN_WORD: &[u8] =
-    b"modcode 1\nalphabet 2\nd 0\nk 1\nforbid 1\n00\ngraph 0 0\nrate 2 3\nwindow 1 1\nstates 3\n0 0 010 1\n0 1 110 1\n0 2 011 0\n0 3 011 2\n1 0 111 0\n1 1 110 1\n1 2 101 0\n1 3 101 2\n2 0 101 0\n2 1 101 2\n2 2 111 0\n2 3 111 2\n";
+    b"modcode 1\nalphabet 2\nd 0\nk -\nforbid 1\n00\ngraph 0 0\nrate 2 3\nwindow 1 1\nstates 3\n0 0 010 1\n0 1 110 1\n0 2 011 0\n0 3 011 2\n1 0 111 0\n1 1 110 1\n1 2 101 0\n1 3 101 2\n2 0 101 0\n2 1 101 2\n2 2 111 0\n2 3 111 2\n";
 
 /// The same with 001 as the block of state 0 and word 0, which its constraint forbids.
 const BROKEN_BLOCK: &[u8] =
@@ -24,6 +30,8 @@ const BROKEN_BLOCK: &[u8] =
 const MFM: &[u8] =
     b"modcode 1\nalphabet 2\nd 1\nk 3\nforbid 0\ngraph 0 0\nrate 1 2\nwindow 2 0\nstates 2\n0 0 10 0\n0 1 01 1\n1 0 00 0\n1 1 01 1\n";
 
+const ENCODE: &[&str] = &["encode", "code", "data", "text"];
+
 fn words(alloc: Global, texts: &[&str]) -> Result<Vec<String>, Fail> {
     let mut words = Vec::new(alloc);
     for text in texts {
@@ -32,11 +40,29 @@ fn words(alloc: Global, texts: &[&str]) -> Result<Vec<String>, Fail> {
     Ok(words)
 }
 
-/// Runs the words over a shelf with a code file `code` and a data file `data`.
-fn status_of(alloc: Global, shelf: &mut MemoryShelf, texts: &[&str]) -> Result<Status, Fail> {
+/// A shelf with a code file `code` and a data file `data`.
+fn two_files(alloc: Global, code: &[u8], file: &[u8]) -> Result<MemoryShelf, Fail> {
+    let mut shelf = MemoryShelf::new(alloc);
+    shelf.add("code", code)?;
+    shelf.add("data", file)?;
+    Ok(shelf)
+}
+
+/// Runs the words, and shows that they end with the status and print the line of it.
+fn refused<F: Shelf>(
+    rt: &impl Abort,
+    alloc: Global,
+    shelf: &mut F,
+    texts: &[&str],
+    status: Status,
+) -> Result<(), Fail> {
+    let mut out = MemorySink::new(alloc, Vec::new(alloc));
     let words = words(alloc, texts)?;
-    let mut out = MemorySink::new(alloc);
-    Ok(run(alloc, words.as_slice(), shelf, &mut out))
+    let ended = run(alloc, words.as_slice(), shelf, &mut out);
+    assert!(rt; ended == status);
+    let line = status_line(alloc, &status)?;
+    assert!(rt; out.text() == line.as_slice());
+    Ok(())
 }
 
 fn encoded(
@@ -44,15 +70,16 @@ fn encoded(
     alloc: Global,
     code: &[u8],
     file: &[u8],
-    status: Status,
-    text: Option<&[u8]>,
+    text: &[u8],
+    printed: &[u8],
 ) -> Result<(), Fail> {
-    let mut shelf = MemoryShelf::new(alloc);
-    shelf.add("code", code)?;
-    shelf.add("data", file)?;
-    let ended = status_of(alloc, &mut shelf, &["encode", "code", "data", "text"])?;
-    assert!(rt; ended == status);
-    assert!(rt; shelf.file("text") == text);
+    let mut shelf = two_files(alloc, code, file)?;
+    let mut out = MemorySink::new(alloc, Vec::new(alloc));
+    let words = words(alloc, ENCODE)?;
+    let ended = run(alloc, words.as_slice(), &mut shelf, &mut out);
+    assert!(rt; ended == Status::Done);
+    assert!(rt; shelf.file("text") == Some(text));
+    assert!(rt; out.text() == printed);
     assert!(rt; shelf.file("code") == Some(code));
     assert!(rt; shelf.file("data") == Some(file));
     Ok(())
@@ -60,94 +87,132 @@ fn encoded(
 
 #[test]
 fn a_file_is_encoded(rt: HostRuntime) -> Result<(), Fail> {
-    let alloc = rt.alloc();
-    encoded(
-        &rt,
-        alloc,
-        NO_TWO_ZEROS,
-        b"\x1b",
-        Status::Done,
-        Some(b"010111110101011101\n"),
-    )?;
-    encoded(
-        &rt,
-        alloc,
-        NO_TWO_ZEROS,
-        b"",
-        Status::Done,
-        Some(b"010111\n"),
-    )?;
-    encoded(
-        &rt,
-        alloc,
-        MFM,
-        b"\xb1",
-        Status::Done,
-        Some(b"10100100010100101001\n"),
-    )
+    let table: [(&[u8], &[u8], &[u8], &[u8]); 4] = [
+        (
+            NO_TWO_ZEROS,
+            b"\x1b",
+            b"010111110101011101\n",
+            b"blocks 6\n",
+        ),
+        (NO_TWO_ZEROS, b"", b"010111\n", b"blocks 2\n"),
+        (
+            FORBIDDEN_WORD,
+            b"\x1b",
+            b"010111110101011101\n",
+            b"blocks 6\n",
+        ),
+        (MFM, b"\xb1", b"10100100010100101001\n", b"blocks 10\n"),
+    ];
+    for (code, file, text, printed) in &table {
+        encoded(&rt, rt.alloc(), code, file, text, printed)?;
+    }
+    Ok(())
 }
 
 #[test]
-fn code_files_are_refused(rt: HostRuntime) -> Result<(), Fail> {
+fn refused_files_leave_no_text(rt: HostRuntime) -> Result<(), Fail> {
     let alloc = rt.alloc();
-    let not_first_form = Status::CodeRefused(CodeFault::NotFirstForm);
-    encoded(&rt, alloc, NO_LAST_LINE_FEED, b"\x1b", not_first_form, None)?;
-    encoded(&rt, alloc, FORBIDDEN_WORD, b"\x1b", not_first_form, None)?;
-    encoded(&rt, alloc, b"", b"\x1b", not_first_form, None)?;
-    encoded(&rt, alloc, b"modcode 1\r\n", b"\x1b", not_first_form, None)?;
-    encoded(
-        &rt,
-        alloc,
-        BROKEN_BLOCK,
-        b"\x1b",
-        Status::CodeRefused(CodeFault::NotWord),
-        None,
-    )
-}
-
-#[test]
-fn a_missing_file_is_named_by_its_place(rt: HostRuntime) -> Result<(), Fail> {
-    let alloc = rt.alloc();
+    let table: [(&[u8], CodeFault); 4] = [
+        (NO_LAST_LINE_FEED, CodeFault::BadCode(21)),
+        (LEADING_ZERO, CodeFault::BadCode(11)),
+        (b"", CodeFault::BadCode(1)),
+        (BROKEN_BLOCK, CodeFault::NotWord),
+    ];
+    for (code, fault) in table {
+        let mut shelf = two_files(alloc, code, b"\x1b")?;
+        refused(&rt, alloc, &mut shelf, ENCODE, Status::CodeRefused(fault))?;
+        assert!(rt; shelf.file("text").is_none());
+    }
     let mut shelf = MemoryShelf::new(alloc);
-    let neither = status_of(alloc, &mut shelf, &["encode", "code", "data", "text"])?;
-    assert!(rt; neither == Status::FileMissing(1));
+    refused(&rt, alloc, &mut shelf, ENCODE, Status::FileMissing(1))?;
     shelf.add("code", NO_TWO_ZEROS)?;
-    let no_data = status_of(alloc, &mut shelf, &["encode", "code", "data", "text"])?;
-    assert!(rt; no_data == Status::FileMissing(2));
+    refused(&rt, alloc, &mut shelf, ENCODE, Status::FileMissing(2))?;
     assert!(rt; shelf.file("text").is_none());
     Ok(())
 }
 
 #[test]
-fn other_words_are_no_form(rt: HostRuntime) -> Result<(), Fail> {
+fn a_code_file_of_one_byte_more_than_8_mib_is_too_long(rt: HostRuntime) -> Result<(), Fail> {
     let alloc = rt.alloc();
-    let mut shelf = MemoryShelf::new(alloc);
-    shelf.add("code", NO_TWO_ZEROS)?;
-    shelf.add("data", b"\x1b")?;
-    let none = status_of(alloc, &mut shelf, &[])?;
-    let short = status_of(alloc, &mut shelf, &["encode", "code", "data"])?;
-    let long = status_of(
+    let long = vec![in alloc; b' '; 8388609]?;
+    let mut shelf = two_files(alloc, long.as_slice(), b"\x1b")?;
+    refused(&rt, alloc, &mut shelf, ENCODE, Status::FileTooLong(8388608))?;
+    shelf.add("code", &long.as_slice()[1..])?;
+    refused(
+        &rt,
         alloc,
         &mut shelf,
+        ENCODE,
+        Status::CodeRefused(CodeFault::BadCode(1)),
+    )
+}
+
+#[test]
+fn other_words_are_no_form(rt: HostRuntime) -> Result<(), Fail> {
+    let alloc = rt.alloc();
+    let mut shelf = two_files(alloc, NO_TWO_ZEROS, b"\x1b")?;
+    let table: [&[&str]; 6] = [
+        &[],
+        &["encode", "code", "data"],
         &["encode", "code", "data", "text", "more"],
-    )?;
-    let other = status_of(alloc, &mut shelf, &["decode", "code", "data", "text"])?;
-    let over_code = status_of(alloc, &mut shelf, &["encode", "code", "data", "code"])?;
-    let over_data = status_of(alloc, &mut shelf, &["encode", "code", "data", "data"])?;
-    for status in [none, short, long, other, over_code, over_data] {
-        assert!(rt; status == Status::Usage);
+        &["decode", "code", "data", "text"],
+        &["encode", "code", "data", "code"],
+        &["encode", "code", "data", "data"],
+    ];
+    for words in table {
+        refused(&rt, alloc, &mut shelf, words, Status::Usage)?;
     }
     assert!(rt; shelf.file("code") == Some(NO_TWO_ZEROS));
+    assert!(rt; shelf.file("text").is_none());
     Ok(())
 }
 
 #[test]
-fn each_status_has_its_number(rt: HostRuntime) {
-    assert_eq!(rt; Status::Done.number(), 0);
-    assert_eq!(rt; Status::Usage.number(), 1);
-    assert_eq!(rt; Status::ShelfFault.number(), 2);
-    assert_eq!(rt; Status::FileTooLong(8).number(), 4);
-    assert_eq!(rt; Status::CodeRefused(CodeFault::NotWord).number(), 9);
-    assert_eq!(rt; Status::NoMemory.number(), 13);
-    assert_eq!(rt; Status::FileMissing(2).number(), 14);
+fn a_failing_shelf_leaves_a_front_of_the_text(rt: HostRuntime) -> Result<(), Fail> {
+    let alloc = rt.alloc();
+    // two calls read the code file to its end, and two the data file; then the text is made and put
+    for call in 1..7 {
+        let mut failing = Vec::new(alloc);
+        failing.push(call)?;
+        let mut shelf = FailingShelf::new(two_files(alloc, NO_TWO_ZEROS, b"\x1b")?, failing);
+        refused(&rt, alloc, &mut shelf, ENCODE, Status::ShelfFault)?;
+        let left = if call < 6 { None } else { Some(b"".as_slice()) };
+        assert!(rt; shelf.inner().file("text") == left);
+    }
+    Ok(())
+}
+
+#[test]
+fn a_failing_sink_leaves_the_text(rt: HostRuntime) -> Result<(), Fail> {
+    let alloc = rt.alloc();
+    for (texts, status) in [(ENCODE, Status::SinkFault), (&["help"], Status::Usage)] {
+        let mut failing = Vec::new(alloc);
+        failing.push(1)?;
+        let mut out = MemorySink::new(alloc, failing);
+        let mut shelf = two_files(alloc, NO_TWO_ZEROS, b"\x1b")?;
+        let ended = run(alloc, words(alloc, texts)?.as_slice(), &mut shelf, &mut out);
+        assert!(rt; ended == status);
+        assert!(rt; out.text().is_empty());
+        assert!(rt; shelf.file("text").is_some() == (status == Status::SinkFault));
+    }
+    Ok(())
+}
+
+#[test]
+fn the_first_argument_is_the_name_of_the_program(rt: HostRuntime) -> Result<(), Fail> {
+    let alloc = rt.alloc();
+    let mut out = MemorySink::new(alloc, Vec::new(alloc));
+    let mut shelf = two_files(alloc, NO_TWO_ZEROS, b"\x1b")?;
+    let arguments = words(alloc, &["modcode", "encode", "code", "data", "text"])?;
+    assert_eq!(rt;
+        run_arguments(alloc, arguments.as_slice(), &mut shelf, &mut out),
+        0
+    );
+    assert_eq!(rt;
+        run_arguments(alloc, &arguments.as_slice()[1..], &mut shelf, &mut out),
+        1
+    );
+    assert_eq!(rt; run_arguments(alloc, &[], &mut shelf, &mut out), 1);
+    assert!(rt; out.text() == b"blocks 6\nusage\nusage\n".as_slice());
+    Ok(())
 }

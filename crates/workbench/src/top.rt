@@ -1,37 +1,29 @@
-ghost use Rattle.std.specs.Prelude.{◌≡◌, ◌↔◌, ℕ, List, map, string_bytes, slice_index_or, MatchOption, IfSome, IfNone, length, [], None, Some};
-ghost use Rattle.workbench.specs.Words.{EncodeWords, form_of, IsEncode};
-ghost use Rattle.workbench.specs.Counts.{CountsStatus};
-ghost use Rattle.workbench.specs.Encode.{EndsOver, AnswersRefusal, Completes};
+ghost use Rattle.std.specs.Prelude.{◌≡◌, ◌↔◌, map, string_bytes, IfSome, None};
+ghost use Rattle.command_steps.specs.declared.status.Status.TheVariants as statuses;
+ghost use Rattle.command_steps.specs.Promise.{Follows, seen};
+ghost use Rattle.command_steps.specs.Answer.{Shelved};
+ghost use Rattle.command_steps.specs.Printing.{said};
+ghost use Rattle.command_steps.specs.Ends.{Ends, IsExact, Completes, CountsShelf, CountsSink, text_left};
+ghost use Rattle.workbench.specs.Forms.{form_of, output_of};
+ghost use Rattle.workbench.specs.Rows.{row_of};
+ghost use Rattle.workbench.specs.Runs.{Runs};
+ghost use Rattle.workbench.specs.Views.{form_seen};
 
-use crate::encode::encode_command;
-use crate::status::Status;
+use crate::command::{Command, command_of};
+use crate::encode::encode;
+use command_steps::{Reply, Status, deliver, print_all, print_line};
 use shelf_io::{Shelf, TextSink};
 use std::alloc::Global;
 
-/// What the words ask for.
-enum Command {
-    Encode,
-}
-
-fn command_of(words: &[String]) -> Option<Command>
-    ensures { MatchOption result (form_of (map string_bytes words.now) ≡ None) (λ _. IsEncode (map string_bytes words.now)) }
-{
-    match words {
-        [command, code, source, text]
-            if command.as_str() == "encode"
-                && text.as_str() != code.as_str()
-                && text.as_str() != source.as_str() => { Some(Command::Encode) }
-        _ => None,
-    }
-}
-
 /// Does what the program's words ask for over a shelf of files, and answers how it ended.
 ///
-/// `encode CODE DATA TEXT` reads a code file without forbidden words and graph, reads a data file, and
-/// writes its plain channel text. Nothing is printed.
+/// `encode CODE DATA TEXT` reads a code file and a data file, writes the plain channel text of the data
+/// under the code, and prints how many blocks it has. After a status other than `Done` and `SinkFault` the
+/// line of the status is printed.
 ///
 /// The file that is written is the last name's alone. After a fault of the shelf it may be a front of
-/// the text, or empty; after every other status but `Done` no file is changed.
+/// the text, or empty; after every other status but `Done` and `SinkFault` no file is changed.
+#[tactic(auto, using(command_steps::proofs::EndLaws::ends, crate::proofs::RowLaws::row_is_single))]
 pub fn run<F: Shelf, K: TextSink>(
     alloc: Global,
     words: &[String],
@@ -39,37 +31,72 @@ pub fn run<F: Shelf, K: TextSink>(
     out: &mut K,
 ) -> Status
     // The words are none of the forms.
-    ensures usage { (result ≡ Status.Usage) ↔ (form_of (map string_bytes words.now) ≡ None) }
-    ensures no_form { IfNone (form_of (map string_bytes words.now)) (F.files shelf.new ≡ F.files shelf.old) }
+    ensures usage { (result ≡ statuses.Usage) ↔ (form_of (map string_bytes words.now) ≡ None) }
 
-    // What each status says of the files.
-    ensures ends { IfSome (form_of (map string_bytes words.now)) (λ form.
-        EndsOver (F.files shelf.old) form result (F.files shelf.new)) }
+    // The status, the files and what is printed follow the row of the form; words of no form change no file.
+    ensures runs { Runs (map string_bytes words.now) (seen F.files F.faults shelf.old) (seen F.files F.faults shelf.new)
+        (said K.written K.faults out.old) (said K.written K.faults out.new) result }
 
-    // Each refusal comes exactly where its cause holds, a fault of the shelf and want of memory aside.
-    ensures refused { IfSome (form_of (map string_bytes words.now)) (λ form.
-        AnswersRefusal (F.files shelf.old) form result) }
+    // Each refusal comes exactly where the row refuses so, a fault of the shelf and want of memory aside.
+    ensures exact { IfSome (form_of (map string_bytes words.now)) (λ form.
+        IsExact (row_of form) (F.files shelf.old) result) }
 
-    // Where there is no cause and no fault, the text is written, or memory was wanted.
-    ensures complete { IfSome (form_of (map string_bytes words.now)) (λ form.
-        Completes (F.files shelf.old) form (F.faults shelf.old, F.faults shelf.new) result (F.files shelf.new)) }
+    // Where the row refuses nothing and there is no fault, the answer is given, or memory was wanted.
+    ensures complete { IfSome (form_of (map string_bytes words.now)) (λ form. Completes (row_of form) (output_of form)
+        (seen F.files F.faults shelf.old) (seen F.files F.faults shelf.new)
+        (said K.written K.faults out.old) (said K.written K.faults out.new) result) }
 
-    // A fault of the shelf was counted, and after every other status none was.
-    ensures count { CountsStatus (F.faults shelf.old) (F.faults shelf.new) result }
-
-    // Nothing is printed.
-    ensures written { K.written out.new ≡ K.written out.old }
-    ensures sink_count { K.faults out.new ≡ K.faults out.old }
+    // After a fault of the shelf its count rose, and after every other status it is what it was; after a fault of
+    // the sink its count rose, and after `Done` it is what it was.
+    ensures count { CountsShelf (seen F.files F.faults shelf.old) (seen F.files F.faults shelf.new) result }
+    ensures sink_count { CountsSink (said K.written K.faults out.old) (said K.written K.faults out.new) result }
 {
-    let _silent = out;
     match command_of(words) {
-        None => Status::Usage,
-        Some(Command::Encode) => encode_command(
-            alloc,
-            shelf,
-            words[1].as_str(),
-            words[2].as_str(),
-            words[3].as_str(),
-        ),
+        None => {
+            print_line(alloc, out, &Status::Usage);
+            Status::Usage
+        }
+        Some(command) => ended(alloc, shelf, out, &command),
+    }
+}
+
+#[tactic(auto, using(command_steps::specs::Ends::printed, command_steps::specs::Ends::unprinted, command_steps::specs::Ends::told))]
+fn ended<F: Shelf, K: TextSink>(
+    alloc: Global,
+    shelf: &mut F,
+    out: &mut K,
+    command: &Command<'_>,
+) -> Status
+    ensures { Ends (row_of (form_seen command.now)) (output_of (form_seen command.now))
+        (seen F.files F.faults shelf.old) (seen F.files F.faults shelf.new)
+        (said K.written K.faults out.old) (said K.written K.faults out.new) result }
+{
+    match shelve(alloc, shelf, command) {
+        Ok(text) => match print_all(out, text.as_str().as_bytes()) {
+            Ok(()) => Status::Done,
+            Err(_) => Status::SinkFault,
+        },
+        Err(status) => {
+            print_line(alloc, out, &status);
+            status
+        }
+    }
+}
+
+/// Answers a command and writes its output file; gives what is left to print, or the status.
+#[tactic(auto, using(command_steps::proofs::EndLaws::shelved_on, command_steps::proofs::EndLaws::shelved_stop))]
+fn shelve<F: Shelf>(alloc: Global, shelf: &mut F, command: &Command<'_>) -> Result<String, Status>
+    ensures { Shelved (row_of (form_seen command.now)) (output_of (form_seen command.now))
+        (seen F.files F.faults shelf.old) (seen F.files F.faults shelf.new) (text_left result) }
+{
+    let reply = answer(alloc, shelf, command)?;
+    deliver(shelf, command.output(), reply)
+}
+
+fn answer<F: Shelf>(alloc: Global, shelf: &mut F, command: &Command<'_>) -> Result<Reply, Status>
+    ensures { Follows (λ r. r) (row_of (form_seen command.now)) (seen F.files F.faults shelf.old) (seen F.files F.faults shelf.new) result }
+{
+    match command {
+        Command::Encode(code, source, _) => encode(alloc, shelf, code, source),
     }
 }

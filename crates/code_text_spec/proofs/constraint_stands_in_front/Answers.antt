@@ -1,4 +1,5 @@
-use Rattle.code_text_spec.proofs.Lines.{text_of-append, constraint_in_front}
+use Rattle.text_reading.proofs.LineSteps.{text_of-append}
+use Rattle.code_text_spec.proofs.Lines.{constraint_in_front}
 use Rattle.code_text_spec.proofs.constraint_stands_in_front.Goals as goal
 
 pub returns-clause-parts : goal.returns-clause-parts

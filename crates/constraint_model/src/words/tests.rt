@@ -1,15 +1,14 @@
-ghost use Rattle.std.specs.Prelude.{◌≡◌, []};
+ghost use Rattle.std.specs.Prelude.{◌≡◌};
 
 use super::*;
+use constraint_spec::GraphEdge;
 use std::process::Abort;
+use symbol_base::{ByteList, NoMemory};
 
 type Case<'a> = (&'a [u8], bool);
 
 /// Asserts of each word whether it belongs to the constraint.
-fn assert_words(rt: &impl Abort, constraint: &Constraint, cases: &[Case])
-    requires no_forbidden { constraint.now.forbid ≡ [] }
-    requires no_graph { constraint.now.edges ≡ [] }
-{
+fn assert_words(rt: &impl Abort, constraint: &Constraint, cases: &[Case]) {
     for (word, belongs) in cases {
         assert_eq!(rt; has_word(constraint, word), *belongs, "{word:?}");
     }
@@ -128,4 +127,130 @@ fn further_symbols_end_a_run(rt: HostRuntime) {
         (&[1, 4, 1], false),
     ];
     assert_words(&rt, &four, &cases);
+}
+
+fn edge(from: u32, label: u8, to: u32) -> GraphEdge
+    ensures { result ≡ record { from = from; label = label; to = to } }
+{
+    GraphEdge { from, label, to }
+}
+
+#[test]
+fn forbidden_words_are_no_part(rt: HostRuntime) -> Result<(), NoMemory> {
+    let pair = ByteList::copy(rt.alloc(), &[1, 1])?;
+    let run = ByteList::copy(rt.alloc(), &[0, 1, 0])?;
+    let constraint = Constraint {
+        alphabet: 2,
+        d: 0,
+        k: None,
+        forbid: vec![in rt.alloc(); pair, run]?,
+        states: 0,
+        edges: Vec::new(rt.alloc()),
+    };
+    let cases: [Case; 13] = [
+        (&[], true),
+        (&[1], true),
+        (&[1, 1], false),
+        (&[0, 1], true),
+        (&[1, 0], true),
+        (&[0, 1, 0], false),
+        (&[0, 0, 1], true),
+        (&[1, 0, 1], true),
+        (&[0, 1, 1], false),
+        (&[1, 1, 0], false),
+        (&[1, 0, 0, 1], true),
+        (&[1, 0, 1, 0], false),
+        (&[0, 0, 0, 0], true),
+    ];
+    assert_words(&rt, &constraint, &cases);
+    Ok(())
+}
+
+#[test]
+fn words_label_walks_from_any_state(rt: HostRuntime) -> Result<(), NoMemory> {
+    let edges = vec![in rt.alloc(); edge(0, 1, 1), edge(1, 0, 0), edge(1, 1, 2), edge(2, 0, 1)]?;
+    let constraint = Constraint {
+        alphabet: 2,
+        d: 0,
+        k: None,
+        forbid: Vec::new(rt.alloc()),
+        states: 3,
+        edges,
+    };
+    let cases: [Case; 16] = [
+        (&[], true),
+        (&[0], true),
+        (&[1], true),
+        (&[0, 0], true),
+        (&[1, 1], true),
+        (&[0, 0, 0], false),
+        (&[1, 1, 1], false),
+        (&[1, 1, 0, 1], true),
+        (&[1, 1, 0, 1, 1], false),
+        (&[1, 0, 0], true),
+        (&[1, 0, 0, 1, 1], true),
+        (&[1, 1, 0, 0], true),
+        (&[0, 1, 0, 0], true),
+        (&[0, 0, 1, 0, 0], false),
+        (&[0, 0, 1, 1, 0], true),
+        (&[0, 0, 2], false),
+    ];
+    assert_words(&rt, &constraint, &cases);
+    Ok(())
+}
+
+#[test]
+fn each_of_the_five_parts_leaves_some_words(rt: HostRuntime) -> Result<(), NoMemory> {
+    let pair = ByteList::copy(rt.alloc(), &[1, 1])?;
+    let constraint = Constraint {
+        alphabet: 2,
+        d: 0,
+        k: Some(3),
+        forbid: vec![in rt.alloc(); pair]?,
+        states: 1,
+        edges: vec![in rt.alloc(); edge(0, 0, 0)]?,
+    };
+    let cases: [Case; 10] = [
+        (&[], true),
+        (&[0], true),
+        (&[0, 0], true),
+        (&[0, 0, 0], true),
+        (&[0, 0, 0, 0], false),
+        (&[1], false),
+        (&[0, 1], false),
+        (&[1, 0], false),
+        (&[1, 1], false),
+        (&[0, 2], false),
+    ];
+    assert_words(&rt, &constraint, &cases);
+    Ok(())
+}
+
+#[test]
+fn each_part_alone_refuses_a_word(rt: HostRuntime) -> Result<(), NoMemory> {
+    let two_runs = ByteList::copy(rt.alloc(), &[1, 0, 0, 0, 1, 0, 0, 0, 1])?;
+    let constraint = Constraint {
+        alphabet: 2,
+        d: 2,
+        k: Some(3),
+        forbid: vec![in rt.alloc(); two_runs]?,
+        states: 2,
+        edges: vec![in rt.alloc(); edge(0, 0, 1), edge(0, 1, 1), edge(1, 0, 0)]?,
+    };
+    let cases: [Case; 12] = [
+        (&[], true),
+        (&[1], true),
+        (&[1, 0, 0, 0, 1], true),
+        (&[0, 1, 0, 0, 0, 1, 0], true),
+        (&[0, 0, 0], true),
+        (&[1, 0, 0, 0, 1, 0, 0, 0], true),
+        (&[1, 0, 1], false),
+        (&[0, 0, 0, 0], false),
+        (&[1, 0, 0, 1], false),
+        (&[1, 0, 0, 0, 1, 0, 0, 0, 1], false),
+        (&[0, 1, 0, 0, 0, 1, 0, 0, 0, 1, 0], false),
+        (&[1, 0, 0, 0, 3], false),
+    ];
+    assert_words(&rt, &constraint, &cases);
+    Ok(())
 }

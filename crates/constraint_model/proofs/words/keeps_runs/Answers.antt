@@ -3,7 +3,7 @@ use Rattle.std.proofs.lemmas.List.{length_push, length-reverse}
 use Rattle.std.proofs.lemmas.Iterator.Adapters.{YieldsList-from_rev_slice}
 use Rattle.std.proofs.lemmas.Iterator.Consumers.{YieldsList-turn}
 use Rattle.constraint_model.proofs.Reading.{read_nothing, zeros_le_length, suffix_more, no_word_of_suffix}
-use Rattle.constraint_model.specs.Front.{IsRead}
+use Rattle.constraint_model.specs.inside.Front.{IsRead}
 use Rattle.constraint_model.proofs.words.keeps_runs.Goals as goal
 
 pub loop-symbol-init : goal.loop-symbol-init

@@ -1,5 +1,5 @@
 use Rattle.std.proofs.Common.{◌-◌, length, drop}
-use Rattle.constraint_model.specs.Front.{IsRead}
+use Rattle.constraint_model.specs.inside.Front.{IsRead}
 use Rattle.constraint_model.proofs.words.keeps_runs.Given as goal
 
 abbrev pub invariant-loop-symbol : goal.invariant-loop-symbol

@@ -15,7 +15,7 @@ encode_word-state-requires-clause-room c =
     let file = c.args.file.now in
     let count : ℕ = word_count code.p (8 * length file) in
     let p_is = ap (λ (d : CodeData). word_count d.p (8 * length file)) c.code.view_is in
-    let inside : c.loop-j.j < count = omega (arith, c.loop-j-test.true, c.words_of-count.ensures.count, p_is) in
+    let inside : c.loop-j.j < count = omega (arith, c.loop-j-test.true, c.count_words-count.ensures.count, p_is) in
     let front = map (λ j. word_at (bits file) (code.p * j) code.p) (range_with_len 0 c.loop-j.j) in
     let len : vec_len c.loop-j.symbols ≡ vec_len c.args.symbols.now + code.q * c.loop-j.j =
     c.loop-j.invariant.len ∙ ap (λ (n : ℕ). vec_len c.args.symbols.now + code.q * n) (length-map-range_with_len (λ j. word_at (bits file) (code.p * j) code.p) 0 c.loop-j.j) in
@@ -38,5 +38,5 @@ returns-clause-len c =
     let code = c.args.code.now in
     let file = c.args.file.now in
     let p_is = ap (λ (d : CodeData). word_count d.p (8 * length file)) c.code.view_is in
-    let at_end : c.loop-j.j ≡ word_count code.p (8 * length file) = omega (arith, c.loop-j-test.false, c.loop-j.auto.j-end, c.words_of-count.ensures.count, p_is) in
+    let at_end : c.loop-j.j ≡ word_count code.p (8 * length file) = omega (arith, c.loop-j-test.false, c.loop-j.auto.j-end, c.count_words-count.ensures.count, p_is) in
     c.loop-j.invariant.len ∙ ap (λ (n : ℕ). vec_len c.args.symbols.now + code.q * n) (length-map-range_with_len (λ j. word_at (bits file) (code.p * j) code.p) 0 c.loop-j.j ∙ at_end)

@@ -1,0 +1,2 @@
+pub mod ReadCode
+pub mod inside

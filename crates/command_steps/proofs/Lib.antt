@@ -1,0 +1,4 @@
+pub mod StepLaws
+pub mod EndLaws
+mod InputLaws
+mod PrintLaws

@@ -1,0 +1,7 @@
+pub mod Step
+pub mod Promise
+pub mod Answer
+pub mod Printing
+pub mod Ends
+pub mod StatusLine
+pub mod Reply

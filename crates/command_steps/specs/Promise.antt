@@ -1,0 +1,37 @@
+-- What a function promises that takes a step.
+use Rattle.std.specs.Prelude.{◌≡◌, ◌≢◌, ℕ, Option, Result, Ok, Err}
+use Rattle.shelf_io.specs.Faults.{Counted}
+use Rattle.shelf_io.specs.Shelf.{Files}
+use Rattle.command_steps.specs.declared.status.Status.{Status}
+use Rattle.command_steps.specs.declared.status.Status.TheVariants.{Done, Usage, ShelfFault, SinkFault, NoMemory}
+use Rattle.command_steps.specs.Step.{Step}
+
+-- a shelf, as far as contracts see it: its files, where it tells them, and its count of faults
+pub record Seen : Type 0 where
+  pub files : Option Files
+  pub faults : ℕ
+
+abbrev pub seen : {S : Type 0} → (S → Option Files) → (S → ℕ) → S → Seen
+seen files faults shelf = record { files = files shelf; faults = faults shelf }
+
+-- a status that the files decide: neither the end of a command that is done, nor one that no file decides
+pub record IsRefusal (s : Status) : Type 0 where
+  pub not_done : s ≢ Done
+  pub not_usage : s ≢ Usage
+  pub not_shelf_fault : s ≢ ShelfFault
+  pub not_sink_fault : s ≢ SinkFault
+  pub not_memory : s ≢ NoMemory
+
+-- The function's result is an outcome of the step, its value seen by view; or a fault was counted, or memory
+-- wanted. No file changed, and no other end raises the count.
+pub data Follows {X A : Type 0} (view : X → A) (step : Step A) (old new : Seen) : Result X Status → Type 0 where
+  gave : (x : X) → step old.files (Ok (view x)) → new ≡ old → Follows view step old new (Ok x)
+  refused : (s : Status) → step old.files (Err s) → IsRefusal s → new ≡ old → Follows view step old new (Err s)
+  fault : new.files ≡ old.files → Counted old.faults new.faults → Follows view step old new (Err ShelfFault)
+  memory : new ≡ old → Follows view step old new (Err NoMemory)
+
+-- the same of a function that sees no shelf, at a step that no file decides
+pub data Decides {X A : Type 0} (view : X → A) (step : Step A) : Result X Status → Type 0 where
+  gave_alone : (x : X) → ((files : Option Files) → step files (Ok (view x))) → Decides view step (Ok x)
+  refused_alone : (s : Status) → ((files : Option Files) → step files (Err s)) → IsRefusal s → Decides view step (Err s)
+  memory_alone : Decides view step (Err NoMemory)

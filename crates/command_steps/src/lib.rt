@@ -1,0 +1,14 @@
+//! What every command is made of: its input files, its answer, the status that it ends with, and what it prints.
+#![tactic(auto)]
+
+mod answer;
+mod input;
+mod printing;
+mod status;
+#[cfg(test)]
+mod tests;
+
+pub use answer::{Reply, deliver};
+pub use input::read_input;
+pub use printing::{print_all, print_line};
+pub use status::{CodeFault, Status, status_line};

@@ -1,0 +1,1 @@
+pub use Rattle.code_text_spec.specs.CodeText
