@@ -3,6 +3,7 @@ pub mod Remainders
 pub mod PowerTables
 pub mod FieldLaws
 mod Logarithms
+mod Doublings
 pub mod Lists
 mod RowSteps
 pub mod NullSpaces

@@ -82,11 +82,11 @@ plus-modulus-lt r high low =
     let small : bit_xor (2 * r - 256) 29 < 2 ^ 8 = xor_lt 8 (2 * r - 256) 29 rest (omega arith) in
     subst (λ s. bit_xor s modulus < 256) (sym whole) (omega arith)
 
-shift_step-low : (r : ℕ) → r < 128 → shift_step r ≡ 2 * r
+pub shift_step-low : (r : ℕ) → r < 128 → shift_step r ≡ 2 * r
 unfolding shift_step
 shift_step-low r low = grind (arith, nat_tests)
 
-shift_step-high : (r : ℕ) → 128 ≤ r → shift_step r ≡ plus (2 * r) modulus
+pub shift_step-high : (r : ℕ) → 128 ≤ r → shift_step r ≡ plus (2 * r) modulus
 unfolding shift_step
 shift_step-high r high = grind (arith, nat_tests)
 

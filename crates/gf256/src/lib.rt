@@ -1,8 +1,8 @@
 //! The field of 256 elements, and linear systems over it.
 #![tactic(auto)]
 
-ghost use Rattle.std.specs.Prelude.{◌≡◌, ◌≢◌, ◌<◌};
-ghost use Rattle.gf256.specs.Field.{IsElement, IsProduct, inverse, plus, power, times};
+ghost use Rattle.std.specs.Prelude.{◌≡◌, ◌≢◌, ◌%◌, ◌<◌};
+ghost use Rattle.gf256.specs.Field.{IsElement, IsProduct, alpha, inverse, plus, power, times};
 
 pub mod laws;
 mod linear;
@@ -54,6 +54,24 @@ impl Gf {
         }
     }
 
+    /// The product again, by doublings and sums alone: a loop over many products makes sixteen of these at
+    /// a time, where it looks each other one up by itself.
+    pub fn mul_by_doubling(self, other: Gf) -> Gf
+        ensures product { IsProduct self.value other.value result.value }
+        ensures value { result.value ≡ times self.value other.value }
+        ensures elements { IsElement self.value × IsElement other.value }
+    {
+        let mut sum = 0;
+        let mut rest = self.value;
+        let mut doubled = other.value;
+        for _bit in 0..8u32 {
+            sum ^= where_odd(rest, doubled);
+            rest /= 2;
+            doubled = times_x(doubled);
+        }
+        Gf { value: sum }
+    }
+
     /// The power to the exponent `e`. Every element to the power 0 is 1, 0 included.
     pub fn pow(self, e: u32) -> Gf
         ensures { result.value ≡ power self.value e }
@@ -80,4 +98,19 @@ impl Gf {
             value: alpha_power(255 - logarithm(self.value)),
         }
     }
+}
+
+/// The product of an element and x.
+fn times_x(element: u8) -> u8
+    ensures { result ≡ times alpha element }
+{
+    let carry = if element < 128 { 0 } else { 29 };
+    element << 1 ^ carry
+}
+
+/// The element where the number is odd, and 0 where it is even.
+fn where_odd(number: u8, element: u8) -> u8
+    ensures { result ≡ times (number % 2) element }
+{
+    if number % 2 == 1 { element } else { 0 }
 }

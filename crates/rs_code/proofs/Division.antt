@@ -2,11 +2,12 @@
 use Rattle.std.proofs.Common.{◌≡◌, ◌≢◌, ℕ, zero, suc, ◌+◌, ◌-◌, ◌*◌, ◌<◌, ◌≤◌, ◌⊎◌, inl, inr, List, [], ◌∷◌, ◌++◌, length, take, set, replicate, refl, sym, ◌∙◌, ap, ap₂, arith, subst, ⊎_elim, get_or}
 use Rattle.std.specs.Prelude.{All}
 use Rattle.std.proofs.lemmas.Bool.{cases_lt}
-use Rattle.std.proofs.lemmas.List.{get_or_append_left, get_or-take, length-take-le, append_assoc, set_at, take_more}
+use Rattle.std.proofs.lemmas.List.Elements.{All-take}
+use Rattle.std.proofs.lemmas.List.{get_or_append_left, get_or-take, length-take-le, append_assoc, set_at, take_more, take-take}
 use Rattle.gf256.specs.Field.{IsElement, plus, times, power, inverse}
 use Rattle.gf256.specs.Linear.{values, scaled, IsNonzero}
 use Rattle.gf256.specs.declared.Gf.{Gf}
-use Rattle.gf256.proofs.Lists.{get_or-scaled, at-values}
+use Rattle.gf256.proofs.Lists.{get_or-scaled, at-values, length-values}
 use Rattle.gf256.proofs.FieldLaws.{plus_exchange, plus-zero, zero-plus, plus_self, plus-times, times-plus, times-zero, zero-times, times-one, one-times, times_assoc, times_comm, times_left_comm, plus_comm, power-zero, power-suc, power-lt, one_not_zero, times-lt, times-inverse, times-ne-zero, inverse-lt, inverse-ne-zero}
 use Rattle.rs_code.specs.declared.key_equation.Remainder.{Remainder}
 use Rattle.rs_code.specs.Polynomial.{value_at, sum_of, product, IsBelowDegree}
@@ -15,7 +16,7 @@ use Rattle.rs_code.specs.inside.Division.{shifted, HasLength, Leaves, IsRemainde
 use Rattle.rs_code.proofs.Moments.{Elements}
 use Rattle.rs_code.proofs.Words.{elements_of, Elements-sum_of}
 use Rattle.rs_code.proofs.Locators.{at-sum_of, at-product-zero, at-product-suc, at-product-none, value_at-none, value_at-lt, higher_degree}
-use Rattle.rs_code.proofs.Roots.{Elements-take, value_at-take}
+use Rattle.rs_code.proofs.Roots.{Elements-take, value_at-take, length-take-under}
 use Rattle.rs_code.proofs.Patterns.{all_of}
 use Rattle.rs_code.proofs.Steps.{values-take}
 
@@ -254,6 +255,24 @@ zeros_degree (suc m) (suc k) h = zeros_degree m k (omega arith)
 
 -- ---- one multiple taken out
 
+sum_of-nothing : (p : List ℕ) → sum_of p [] ≡ p
+sum_of-nothing [] = refl
+sum_of-nothing (a ∷ p) = refl
+
+-- zeros at the end of a multiple add nothing
+pub added_front : (p q : List ℕ) (s k m : ℕ) → k + length q ≤ length p → IsBelowDegree m q → added p s k (take m q) ≡ added p s k q
+added_front [] q s (suc k) m fits degree = absurd (omega (arith, fits))
+added_front (a ∷ p) q s (suc k) m fits degree = ap (λ r. plus a (times s 0) ∷ r) (added_front p q s k m (omega (arith, fits)) degree)
+added_front p [] s zero zero fits degree = refl
+added_front p [] s zero (suc m) fits degree = refl
+added_front [] (c ∷ q) s zero m fits degree = absurd (omega (arith, fits))
+added_front (a ∷ p) (c ∷ q) s zero zero fits degree =
+    ap₂ (λ b r. b ∷ r)
+    (sym (ap (λ e. plus a (times s e)) (degree 0 (omega arith)) ∙ ap (plus a) (times-zero s) ∙ plus-zero a))
+    (sym (sum_of-nothing p) ∙ added_front p q s 0 0 (omega (arith, fits)) (λ k h. degree (suc k) (omega arith)))
+added_front (a ∷ p) (c ∷ q) s zero (suc m) fits degree =
+    ap (λ r. plus a (times s c) ∷ r) (added_front p q s 0 m (omega (arith, fits)) (λ k h. degree (suc k) (omega (arith, h))))
+
 pub reduced_list : (to from : List Gf) (at last : ℕ) (top bottom new : List Gf) (scale inverted k m : ℕ)
     → values new ≡ sum_of (values top) (scaled scale (shifted k (values (take m bottom))))
     → scale ≡ times (get_or to at (record { value = 0 })).value inverted
@@ -264,6 +283,24 @@ reduced_list to from at last top bottom new scale inverted k m sum scale_is inve
     ∙ ap₂ (λ s q. added (values top) s k q)
     (scale_is ∙ ap₂ (λ a b. times a b) (sym (at-values to at)) (inverted_is ∙ ap inverse (sym (at-values from last))))
     (values-take m bottom)
+
+-- the coefficients past the leading one add nothing
+pub reduced_coefficients : (rest here : Remainder) (new : List Gf) (scale inverted : ℕ) → CanDivide rest here → 48 ≤ length rest.coefficients
+    → values new ≡ sum_of (values rest.coefficients) (scaled scale (shifted (rest.length - here.length) (values (take 32 here.coefficients))))
+    → scale ≡ times (get_or rest.coefficients (rest.length - 1) (record { value = 0 })).value inverted
+    → inverted ≡ inverse (get_or here.coefficients (here.length - 1) (record { value = 0 })).value
+    → values new ≡ added (values rest.coefficients) (ratio rest here) (rest.length - here.length) (take here.length (values here.coefficients))
+reduced_coefficients rest here new scale inverted can room sum scale_is inverted_is =
+    let p : List ℕ = values rest.coefficients in
+    let q : List ℕ = values here.coefficients in
+    let k : ℕ = rest.length - here.length in
+    let degree : IsBelowDegree 32 q = λ i h. can.here_length.degree i (omega (arith, h, can.short)) in
+    reduced_list rest.coefficients here.coefficients (rest.length - 1) (here.length - 1) rest.coefficients here.coefficients new scale inverted k 32
+    sum scale_is inverted_is
+    ∙ sym (added_front p (take 32 q) (ratio rest here) k here.length
+    (omega (arith, room, can.room, length-take-under 32 q, length-values rest.coefficients))
+    (IsBelowDegree-take 32 here.length q degree can.here_length.degree))
+    ∙ ap (added p (ratio rest here) k) (take-take here.length 32 q can.short)
 
 pub reduced_degree : (rest here : Remainder) (new : List ℕ) → CanDivide rest here → here.length ≤ rest.length
     → new ≡ added (values rest.coefficients) (ratio rest here) (rest.length - here.length) (take here.length (values here.coefficients))
@@ -329,6 +366,7 @@ pub still_divides : (rest here result : Remainder) → CanDivide rest here → R
 still_divides rest here result can reduces = record {
   some = can.some;
   within = omega (arith, can.within, reduces.shorter);
+  short = can.short;
   room = omega (arith, can.room, reduces.shorter);
   rest_length = reduces.has_length;
   here_length = can.here_length;
@@ -364,12 +402,12 @@ pub partial_more : (t : ℕ) (sums : List ℕ) (above here rest result : Remaind
 partial_more t sums above here rest result small enough row can fits at_most partial reduces =
     let k : ℕ = rest.length - here.length in
     let e : ℕ = 2 * t + 1 - above.length in
-    let m : ℕ = 17 - k in
+    let m : ℕ = 16 in
     let f : List ℕ = values rest.factor in
     let g : List ℕ = values here.factor in
     let top : above.length ≤ 2 * t + 1 = row.first.short in
     let g_length : HasLength (e + 1) g = subst (λ n. HasLength n g) (omega (arith, top)) row.second_factor in
-    let room : e + 1 ≤ m = omega (arith, top, small, enough, fits, at_most) in
+    let room : e + 1 ≤ m = omega (arith, top, small, enough, row.shorter) in
     let g_degree : IsBelowDegree m g = λ i h. g_length.degree i (omega (arith, h, room)) in
     let g_in : Elements g = elements_of g row.second.factor_in in
     record {
@@ -425,6 +463,7 @@ pub can_divide : (t : ℕ) (sums : List ℕ) (above here : Remainder) → t ≤ 
 can_divide t sums above here small enough row = record {
   some = omega (arith, enough);
   within = omega (arith, small, row.first.short);
+  short = omega (arith, small, row.first.short, row.shorter);
   room = omega (arith, small, enough, row.first.short);
   rest_length = row.first.has_length;
   here_length = row.second.has_length;
@@ -456,9 +495,9 @@ elements_front zero sums m sums_in = elements_zeros m
 elements_front (suc n) [] m sums_in = elements_zeros m
 elements_front (suc n) (x ∷ sums) m sums_in = (sums_in 0 (omega arith), elements_front n sums m (λ i h. sums_in (suc i) (omega (arith, h))))
 
-power_leaves : (t : ℕ) (sums : List ℕ) (m : ℕ) → Leaves t sums (replicate 17 0) (shifted (2 * t) (1 ∷ replicate m 0))
+power_leaves : (t : ℕ) (sums : List ℕ) (m : ℕ) → Leaves t sums (replicate 32 0) (shifted (2 * t) (1 ∷ replicate m 0))
 power_leaves t sums m i h =
-    at-product-none (replicate 17 0) sums i (zeros_degree 17) ∙ sym (at-shifted_below (2 * t) (1 ∷ replicate m 0) i h)
+    at-product-none (replicate 32 0) sums i (zeros_degree 32) ∙ sym (at-shifted_below (2 * t) (1 ∷ replicate m 0) i h)
 
 power_length : (n m : ℕ) → HasLength (n + 1) (shifted n (1 ∷ replicate m 0))
 power_length n m = record {
@@ -471,79 +510,94 @@ power_length n m = record {
 value_at-one : (m x : ℕ) → value_at (1 ∷ replicate m 0) x ≡ 1
 value_at-one m x = ap (λ u. plus 1 (times x u)) (value_at-none (replicate m 0) x (zeros_degree m)) ∙ ap (plus 1) (times-zero x) ∙ plus-zero 1
 
-first_cross : (n m x v : ℕ) → plus (times (value_at (shifted n (1 ∷ replicate m 0)) x) (value_at (1 ∷ replicate 16 0) x)) (times v (value_at (replicate 17 0) x)) ≡ power x n
+first_cross : (n m x v : ℕ) → plus (times (value_at (shifted n (1 ∷ replicate m 0)) x) (value_at (1 ∷ replicate 31 0) x)) (times v (value_at (replicate 32 0) x)) ≡ power x n
 first_cross n m x v =
     ap₂ (λ a b. plus a b)
     (ap₂ (λ a b. times a b)
     (value_at-shifted n (1 ∷ replicate m 0) x (elements_one m) ∙ ap (times (power x n)) (value_at-one m x) ∙ times-one (power x n) (power-lt x n))
-    (value_at-one 16 x)
+    (value_at-one 31 x)
     ∙ times-one (power x n) (power-lt x n))
-    (ap (times v) (value_at-none (replicate 17 0) x (zeros_degree 17)) ∙ times-zero v)
+    (ap (times v) (value_at-none (replicate 32 0) x (zeros_degree 32)) ∙ times-zero v)
     ∙ plus-zero (power x n)
 
 pub first_row : (t : ℕ) (sums : List ℕ) (above here : Remainder) → 2 * t ≤ length sums → above.length ≡ 2 * t + 1
-    → values above.coefficients ≡ shifted (2 * t) (1 ∷ replicate (32 - 2 * t) 0) → values above.factor ≡ replicate 17 0
-    → values here.coefficients ≡ take (2 * t) sums ++ replicate (33 - 2 * t) 0 → HasLength here.length (values here.coefficients)
-    → here.length ≤ 2 * t → values here.factor ≡ 1 ∷ replicate 16 0
+    → values above.coefficients ≡ shifted (2 * t) (1 ∷ replicate (47 - 2 * t) 0) → values above.factor ≡ replicate 32 0
+    → values here.coefficients ≡ take (2 * t) sums ++ replicate (48 - 2 * t) 0 → HasLength here.length (values here.coefficients)
+    → here.length ≤ 2 * t → values here.factor ≡ 1 ∷ replicate 31 0
     → ((i : ℕ) → i < 2 * t → IsElement (get_or sums i 0))
     → AreInARow t sums above here
 first_row t sums above here enough top power_is none front has_length short one sums_in = record {
   first = record {
-    leaves = λ i h. ap (λ xs. get_or (product xs sums) i 0) none ∙ power_leaves t sums (32 - 2 * t) i h ∙ ap (λ xs. get_or xs i 0) (sym power_is);
+    leaves = λ i h. ap (λ xs. get_or (product xs sums) i 0) none ∙ power_leaves t sums (47 - 2 * t) i h ∙ ap (λ xs. get_or xs i 0) (sym power_is);
     has_length = subst (λ n. HasLength n (values above.coefficients)) (sym top)
-        (subst (HasLength (2 * t + 1)) (sym power_is) (power_length (2 * t) (32 - 2 * t)));
+        (subst (HasLength (2 * t + 1)) (sym power_is) (power_length (2 * t) (47 - 2 * t)));
     short = omega (arith, top);
-    coefficients_in = subst (All IsElement) (sym power_is) (all_of _ (Elements-shifted (2 * t) (1 ∷ replicate (32 - 2 * t) 0) (elements_one (32 - 2 * t))));
-    factor_in = subst (All IsElement) (sym none) (all_of (replicate 17 0) (elements_zeros 17));
+    coefficients_in = subst (All IsElement) (sym power_is) (all_of _ (Elements-shifted (2 * t) (1 ∷ replicate (47 - 2 * t) 0) (elements_one (47 - 2 * t))));
+    factor_in = subst (All IsElement) (sym none) (all_of (replicate 32 0) (elements_zeros 32));
   };
   second = record {
     leaves = λ i h.
-        ap (λ xs. get_or (product xs sums) i 0) one ∙ at-product-one 16 sums i (sums_in i h)
-        ∙ sym (sums_written (2 * t) sums i h enough (33 - 2 * t)) ∙ ap (λ xs. get_or xs i 0) (sym front);
+        ap (λ xs. get_or (product xs sums) i 0) one ∙ at-product-one 31 sums i (sums_in i h)
+        ∙ sym (sums_written (2 * t) sums i h enough (48 - 2 * t)) ∙ ap (λ xs. get_or xs i 0) (sym front);
     has_length = has_length;
     short = omega (arith, short);
-    coefficients_in = subst (All IsElement) (sym front) (all_of _ (elements_front (2 * t) sums (33 - 2 * t) sums_in));
-    factor_in = subst (All IsElement) (sym one) (all_of (1 ∷ replicate 16 0) (elements_one 16));
+    coefficients_in = subst (All IsElement) (sym front) (all_of _ (elements_front (2 * t) sums (48 - 2 * t) sums_in));
+    factor_in = subst (All IsElement) (sym one) (all_of (1 ∷ replicate 31 0) (elements_one 31));
   };
   shorter = omega (arith, top, short);
-  first_factor = λ i h. ap (λ xs. get_or xs i 0) none ∙ zeros_degree 17 i (omega arith);
+  first_factor = λ i h. ap (λ xs. get_or xs i 0) none ∙ zeros_degree 32 i (omega arith);
   second_factor = subst (HasLength (2 * t + 2 - above.length)) (sym one)
-      (subst (λ n. HasLength n (1 ∷ replicate 16 0)) (omega (arith, top)) (power_length 0 16));
+      (subst (λ n. HasLength n (1 ∷ replicate 31 0)) (omega (arith, top)) (power_length 0 31));
   cross = λ x.
       ap₂ (λ r f. plus (times (value_at r x) (value_at f x)) (times (value_at (values here.coefficients) x) (value_at (values above.factor) x))) power_is one
-      ∙ ap (λ f. plus (times (value_at (shifted (2 * t) (1 ∷ replicate (32 - 2 * t) 0)) x) (value_at (1 ∷ replicate 16 0) x)) (times (value_at (values here.coefficients) x) (value_at f x))) none
-      ∙ first_cross (2 * t) (32 - 2 * t) x (value_at (values here.coefficients) x);
+      ∙ ap (λ f. plus (times (value_at (shifted (2 * t) (1 ∷ replicate (47 - 2 * t) 0)) x) (value_at (1 ∷ replicate 31 0) x)) (times (value_at (values here.coefficients) x) (value_at f x))) none
+      ∙ first_cross (2 * t) (47 - 2 * t) x (value_at (values here.coefficients) x);
 }
 
-pub pair_of : (t : ℕ) (sums : List ℕ) (above here : Remainder) (evaluator : List ℕ) → t ≤ 16 → t < above.length → here.length ≤ t
-    → AreInARow t sums above here → evaluator ≡ take 16 (values here.coefficients)
-    → IsKeyPair t sums (values here.factor) evaluator
-pair_of t sums above here evaluator small enough done row front =
+-- the later factor has at most t + 1 coefficients
+short_factor : (t : ℕ) (sums : List ℕ) (above here : Remainder) → t ≤ 16 → t < above.length → AreInARow t sums above here
+    → IsBelowDegree 17 (values here.factor)
+short_factor t sums above here small enough row i h = row.second_factor.degree i (omega (arith, h, small, enough, row.first.short))
+
+pub pair_of : (t : ℕ) (sums : List ℕ) (above here : Remainder) (locator evaluator : List ℕ) → t ≤ 16 → t < above.length → here.length ≤ t
+    → AreInARow t sums above here → locator ≡ take 17 (values here.factor) → evaluator ≡ take 16 (values here.coefficients)
+    → IsKeyPair t sums locator evaluator
+pair_of t sums above here locator evaluator small enough done row first front =
     let here_degree : IsBelowDegree 16 (values here.coefficients) =
     λ i h. row.second.has_length.degree i (omega (arith, h, done, small)) in
+    let factor_degree : IsBelowDegree 17 (values here.factor) = short_factor t sums above here small enough row in
     record {
-      elements = row.second.factor_in;
-      locator_degree = λ i h. row.second_factor.degree i (omega (arith, h, enough, row.first.short));
+      elements = subst (All IsElement) (sym first) (All-take IsElement 17 (values here.factor) row.second.factor_in);
+      locator_degree = λ i h. ap (λ xs. get_or xs i 0) first ∙ at-take 17 (values here.factor) i factor_degree
+          ∙ row.second_factor.degree i (omega (arith, h, enough, row.first.short));
       evaluator_degree = λ i h. ap (λ xs. get_or xs i 0) front ∙ at-take 16 (values here.coefficients) i here_degree
           ∙ row.second.has_length.degree i (omega (arith, h, done));
-      agrees = λ i h. row.second.leaves i h ∙ sym (at-take 16 (values here.coefficients) i here_degree) ∙ ap (λ xs. get_or xs i 0) (sym front);
+      agrees = λ i h. ap (λ xs. get_or (product xs sums) i 0) first ∙ at-product-take 17 (values here.factor) sums i factor_degree
+          ∙ row.second.leaves i h ∙ sym (at-take 16 (values here.coefficients) i here_degree) ∙ ap (λ xs. get_or xs i 0) (sym front);
     }
 
-pub factor_nonzero : (t : ℕ) (sums : List ℕ) (above here : Remainder) → AreInARow t sums above here → IsNonzero (values here.factor)
-factor_nonzero t sums above here row =
-    (2 * t + 2 - above.length - 1, row.second_factor.leading (omega (arith, row.first.short)))
+pub factor_nonzero : (t : ℕ) (sums : List ℕ) (above here : Remainder) (locator : List ℕ) → t ≤ 16 → t < above.length
+    → AreInARow t sums above here → locator ≡ take 17 (values here.factor) → IsNonzero locator
+factor_nonzero t sums above here locator small enough row first =
+    let k : ℕ = 2 * t + 2 - above.length - 1 in (
+      k,
+      λ z. row.second_factor.leading (omega (arith, row.first.short))
+          (sym (ap (λ xs. get_or xs k 0) first ∙ at-take 17 (values here.factor) k (short_factor t sums above here small enough row)) ∙ z),
+    )
 
 -- at a root of the locator other than 0 the evaluator isn't 0
-pub no_common_root : (t : ℕ) (sums : List ℕ) (above here : Remainder) (evaluator : List ℕ) → t ≤ 16 → here.length ≤ t
-    → AreInARow t sums above here → evaluator ≡ take 16 (values here.coefficients)
-    → (x : ℕ) → IsElement x → x ≢ 0 → value_at (values here.factor) x ≡ 0 → value_at evaluator x ≢ 0
-no_common_root t sums above here evaluator small done row front x x_in ne root z =
+pub no_common_root : (t : ℕ) (sums : List ℕ) (above here : Remainder) (locator evaluator : List ℕ) → t ≤ 16 → t < above.length → here.length ≤ t
+    → AreInARow t sums above here → locator ≡ take 17 (values here.factor) → evaluator ≡ take 16 (values here.coefficients)
+    → (x : ℕ) → IsElement x → x ≢ 0 → value_at locator x ≡ 0 → value_at evaluator x ≢ 0
+no_common_root t sums above here locator evaluator small enough done row first front x x_in ne root z =
     let value : value_at (values here.coefficients) x ≡ 0 =
     sym (ap (λ p. value_at p x) front ∙ value_at-take 16 (values here.coefficients) x (λ i h. row.second.has_length.degree i (omega (arith, h, done, small)))) ∙ z in
+    let factor_value : value_at (values here.factor) x ≡ 0 =
+    sym (ap (λ p. value_at p x) first ∙ value_at-take 17 (values here.factor) x (short_factor t sums above here small enough row)) ∙ root in
     let none : power x (2 * t) ≡ 0 =
     sym (row.cross x)
     ∙ ap₂ (λ u v. plus u v)
-    (ap (times (value_at (values above.coefficients) x)) root ∙ times-zero (value_at (values above.coefficients) x))
+    (ap (times (value_at (values above.coefficients) x)) factor_value ∙ times-zero (value_at (values above.coefficients) x))
     (ap (λ u. times u (value_at (values above.factor) x)) value ∙ zero-times (value_at (values above.factor) x))
     ∙ plus-zero 0 in
     power_nonzero x (2 * t) x_in ne none

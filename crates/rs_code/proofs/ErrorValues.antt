@@ -7,7 +7,7 @@ use Rattle.gf256.proofs.FieldLaws.{plus_comm, plus_assoc, plus_exchange, plus-ze
 use Rattle.gf256.proofs.Polynomials.{plus_self_left}
 use Rattle.rs_code.specs.Polynomial.{value_at, product, IsBelowDegree}
 use Rattle.rs_code.specs.Laws.{AreSums, IsKeyPair}
-use Rattle.rs_code.specs.inside.Errors.{weight, moment, turned, every_other, IsApart, AreDistinct}
+use Rattle.rs_code.specs.inside.Errors.{weight, moment, turned, every_other, IsErrorValue, IsApart, AreDistinct}
 use Rattle.rs_code.proofs.Moments.{Elements, AreZero, weighed}
 use Rattle.rs_code.proofs.Words.{elements_of, points, Elements-points, points_distinct, length-points, weighted_sum-moment}
 use Rattle.rs_code.proofs.Locators.{at-product-zero, at-product-suc, higher_degree, value_at-none, turned-suc, AreNonzero, points_nonzero, at-points, turned_pattern}
@@ -353,3 +353,19 @@ evaluator_value t sums locator evaluator errors s short errors_in few are_sums p
     ∙ ap (times (get_or errors s 0))
     (ap f here
     ∙ part_here t locator x z (times-inverse x (power-lt alpha (length errors - 1 - s)) (alpha-ne-zero (length errors - 1 - s))) locator_in degree root)
+
+-- the quotient of the two values at the inverse of a point is the only value that an error there can have
+pub quotient_right : (locator evaluator : List ℕ) (n z slope over v : ℕ) → z ≡ inverse (power alpha n)
+    → slope ≡ value_at (every_other false locator) z → over ≡ value_at evaluator z → IsElement slope → (slope ≢ 0 → v ≡ times over (inverse slope))
+    → IsErrorValue locator evaluator n v
+quotient_right locator evaluator n z slope over v z_is slope_is over_is slope_in quotient error error_in ne value =
+    let odd : slope ≡ value_at (every_other false locator) (inverse (power alpha n)) =
+    slope_is ∙ ap (value_at (every_other false locator)) z_is in
+    elim (cases_eq slope 0) as (λ _. v ≡ error) [
+      | inl none ↦ absurd (ne (value ∙ ap (times error) (sym odd ∙ none) ∙ times-zero error))
+      | inr some ↦
+          quotient some
+          ∙ ap (λ u. times u (inverse slope)) (over_is ∙ ap (value_at evaluator) z_is ∙ value ∙ ap (times error) (sym odd))
+          ∙ times_assoc error slope (inverse slope)
+          ∙ ap (times error) (times-inverse slope slope_in some) ∙ times-one error error_in
+    ]

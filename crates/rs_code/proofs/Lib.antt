@@ -3,6 +3,7 @@ pub mod Words
 pub mod Locators
 pub mod Roots
 pub mod Steps
+pub mod PointTables
 pub mod Patterns
 pub mod Correction
 pub mod Encoding
@@ -10,5 +11,6 @@ pub mod Division
 pub mod ErrorValues
 pub mod Bytes
 pub mod Registers
+pub mod Pairs
 pub mod Remainders
 pub mod Interleaves

@@ -51,13 +51,13 @@ padded_generator t g small full behind roots = record {
 
 -- ---- a symbol is fed
 
-sum_of-append : (a b c d : List ℕ) → length a ≡ length c → sum_of (a ++ b) (c ++ d) ≡ sum_of a c ++ sum_of b d
+pub sum_of-append : (a b c d : List ℕ) → length a ≡ length c → sum_of (a ++ b) (c ++ d) ≡ sum_of a c ++ sum_of b d
 sum_of-append [] b [] d same = refl
 sum_of-append [] b (y ∷ c) d same = absurd (omega (arith, same))
 sum_of-append (x ∷ a) b [] d same = absurd (omega (arith, same))
 sum_of-append (x ∷ a) b (y ∷ c) d same = ap (λ r. plus x y ∷ r) (sum_of-append a b c d (omega (arith, same)))
 
-sum_of-zeros : (n : ℕ) (xs : List ℕ) → length xs ≡ n → sum_of xs (replicate n 0) ≡ xs
+pub sum_of-zeros : (n : ℕ) (xs : List ℕ) → length xs ≡ n → sum_of xs (replicate n 0) ≡ xs
 sum_of-zeros zero [] long = refl
 sum_of-zeros zero (x ∷ xs) long = absurd (omega (arith, long))
 sum_of-zeros (suc n) [] long = absurd (omega (arith, long))
@@ -106,21 +106,23 @@ wide_fed h l row behind f g full is_row =
     ∙ sym (sum_of-append front back (bytes_high_first 16 row) (bytes_high_first 16 behind) refl)
     ∙ ap (sum_of (front ++ back)) (is_row ∙ ap (scaled f) (sym (take_whole g full)))
 
--- up to t = 8 the second number is 0
+-- where the second half is 0, so is the second number
+pub narrow_list : (high low : ℕ) (xs : List ℕ) → IsBelowDegree 16 xs → register high low ≡ xs → register high 0 ≡ xs
+narrow_list high low xs behind is =
+    ap (λ bs. bytes_high_first 16 high ++ bs) (sym none) ∙ is
+  where
+    none : bytes_high_first 16 low ≡ bytes_high_first 16 0
+    none =
+        zero_list (bytes_high_first 16 low)
+        (λ k. get_or-drop 16 (register high low) k 0 ∙ ap (λ ys. get_or ys (16 + k) 0) is ∙ behind (16 + k) (omega arith))
+
+-- up to t = 8 the second number of a row is 0
 pub narrow_row : (t high low f : ℕ) (g : List ℕ) → t ≤ 8 → IsBelowDegree (2 * t) g → register high low ≡ scaled f g → register high 0 ≡ scaled f g
 narrow_row t high low f g small behind is_row =
-    ap (λ bs. bytes_high_first 16 high ++ bs) (sym none) ∙ is_row
-  where
-    at_low : (k : ℕ) → get_or (bytes_high_first 16 low) k 0 ≡ 0
-    at_low k =
-        get_or-drop 16 (register high low) k 0
-        ∙ ap (λ xs. get_or xs (16 + k) 0) is_row
-        ∙ get_or-scaled f g (16 + k) ∙ ap (times f) (behind (16 + k) (omega (arith, small))) ∙ times-zero f
+    narrow_list high low (scaled f g)
+    (λ k past. get_or-scaled f g k ∙ ap (times f) (behind k (omega (arith, small, past))) ∙ times-zero f) is_row
 
-    none : bytes_high_first 16 low ≡ bytes_high_first 16 0
-    none = zero_list (bytes_high_first 16 low) at_low
-
-at_push : (xs : List ℕ) (k : ℕ) → get_or (xs ++ 0 ∷ []) k 0 ≡ get_or xs k 0
+pub at_push : (xs : List ℕ) (k : ℕ) → get_or (xs ++ 0 ∷ []) k 0 ≡ get_or xs k 0
 at_push [] zero = refl
 at_push [] (suc k) = refl
 at_push (x ∷ xs) zero = refl
@@ -178,7 +180,7 @@ rest_more t g symbols before k h l generates rest within symbol_in is_fed =
     }
 
 -- the place of the row is below 256, and is the symbol that leaves the register, added to the one that comes
-place_is : (n symbol : ℕ) → IsElement symbol → (row_place n symbol < 256) × (row_place n symbol ≡ plus symbol (n / 2 ^ 120 % 256))
+pub place_is : (n symbol : ℕ) → IsElement symbol → (row_place n symbol < 256) × (row_place n symbol ≡ plus symbol (n / 2 ^ 120 % 256))
 place_is n symbol symbol_in =
     let top : ℕ = n / 2 ^ 120 % 256 in
     let small : top < 256 = omega arith in (

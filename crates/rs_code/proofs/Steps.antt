@@ -1,19 +1,19 @@
 -- What the loops over a word's weighted sums keep.
-use Rattle.std.proofs.Common.{false, ◌≡◌, ◌≢◌, ℕ, zero, suc, ◌+◌, ◌-◌, ◌*◌, ◌<◌, ◌≤◌, List, [], ◌∷◌, ◌++◌, length, take, drop, set, refl, sym, ◌∙◌, ap, arith, get_or, length-append, add-one, add-zero, zero-add, below_more, get_or-set_other, get_or-set_same, drop-drop, length-set, append-nil, replicate}
+use Rattle.std.proofs.Common.{false, true, Bool, ◌≡◌, ◌≢◌, ℕ, zero, suc, ◌+◌, ◌-◌, ◌*◌, ◌<◌, ◌≤◌, List, [], ◌∷◌, ◌++◌, length, take, drop, set, refl, sym, ◌∙◌, ap, arith, get_or, length-append, add-one, add-zero, zero-add, below_more, get_or-set_other, get_or-set_same, drop-drop, length-set, append-nil, replicate}
 use Rattle.std.proofs.lemmas.List.{take_more, take_more_set, take_all, length-map, length-take-le, map_push, length_push, take-map, drop-map, drop_more, get_or-take, get_or-drop, drop-set-lt}
 use Rattle.std.proofs.lemmas.Bool.{ne_eqb}
 use Rattle.std.specs.Prelude.{bit_xor}
 use Rattle.gf256.specs.Field.{IsElement, plus, times, power, alpha}
 use Rattle.gf256.proofs.FieldLaws.{times-zero, times_left_comm, plus_comm, plus_assoc, plus-zero, zero-plus, zero-times, times-one, plus-times, power-mul, times_comm, times_assoc, power-zero, power-suc, power-add}
 use Rattle.rs_code.specs.Word.{weighted_sum}
-use Rattle.rs_code.specs.Polynomial.{sum_of, value_at}
+use Rattle.rs_code.specs.Polynomial.{sum_of, value_at, IsBelowDegree}
 use Rattle.rs_code.specs.inside.Errors.{sum_of_terms, weight, every_other, moment, powers, HasRoots, IsRooted, AreBelow, root_exponents}
 use Rattle.gf256.specs.declared.Gf.{Gf}
 use Rattle.gf256.specs.Linear.{values, IsVector, IsNonzero}
 use Rattle.rs_code.proofs.Moments.{AreZero, moment-AreZero}
 use Rattle.rs_code.proofs.Locators.{at-sum_of}
 use Rattle.rs_code.proofs.Words.{elements_of, points, weighted_sum-moment}
-use Rattle.rs_code.proofs.Roots.{Elements-powers, few_roots, root_exponents_hold, AreRootExponents}
+use Rattle.rs_code.proofs.Roots.{value_at-take, Elements-powers, few_roots, root_exponents_hold, AreRootExponents}
 
 -- a further symbol: Horner's step
 pub weighted_sum-push : (word : List ℕ) (symbol i : ℕ) → IsElement symbol
@@ -235,6 +235,25 @@ odd_more p i value x within here =
     ∙ ap (times x) (plus_comm (times value (times x x)) b ∙ ap (plus b) (times_left_comm value x x ∙ ap (times x) here))
     ∙ sym (zero-plus (times x (plus b (times x v))))
     ∙ sym (ap (λ q. value_at (every_other false q) x) two)
+
+take-every_other : (n : ℕ) (kept : Bool) (p : List ℕ) → every_other kept (take n p) ≡ take n (every_other kept p)
+take-every_other zero kept p = refl
+take-every_other (suc n) kept [] = refl
+take-every_other (suc n) true (a ∷ p) = ap (λ q. a ∷ q) (take-every_other n false p)
+take-every_other (suc n) false (a ∷ p) = ap (λ q. 0 ∷ q) (take-every_other n true p)
+
+degree-every_other : (n : ℕ) (kept : Bool) (p : List ℕ) → IsBelowDegree n p → IsBelowDegree n (every_other kept p)
+degree-every_other n kept [] degree k h = refl
+degree-every_other n true (a ∷ p) degree zero h = degree 0 h
+degree-every_other n false (a ∷ p) degree zero h = refl
+degree-every_other n true (a ∷ p) degree (suc k) h = degree-every_other (n - 1) false p (λ j i. degree (suc j) (omega (arith, i))) k (omega (arith, h))
+degree-every_other n false (a ∷ p) degree (suc k) h = degree-every_other (n - 1) true p (λ j i. degree (suc j) (omega (arith, i))) k (omega (arith, h))
+
+-- the coefficients past the degree can be left out
+pub value_at-every_other : (n : ℕ) (kept : Bool) (p : List ℕ) (x : ℕ) → IsBelowDegree n p
+    → value_at (every_other kept (take n p)) x ≡ value_at (every_other kept p) x
+value_at-every_other n kept p x degree =
+    ap (λ q. value_at q x) (take-every_other n kept p) ∙ value_at-take n (every_other kept p) x (degree-every_other n kept p degree)
 
 -- ---- the roots
 

@@ -1,3 +1,4 @@
 pub mod Errors
 pub mod Division
 pub mod Register
+pub mod PointTables

@@ -8,22 +8,27 @@ ghost use Rattle.rs_code.specs.Polynomial.{IsBelowDegree};
 ghost use Rattle.rs_code.specs.Word.{IsReedSolomonWord, IsNear, differences, weighted_sum};
 ghost use Rattle.rs_code.specs.Remainder.{IsRemainder};
 ghost use Rattle.rs_code.specs.Interleave.{interleave};
-ghost use Rattle.rs_code.specs.inside.Register.{AreRows, IsRest, register, narrow_step, wide_step, wide_step_behind};
+ghost use Rattle.rs_code.specs.inside.Register.{AreRows, AreFarRows, IsRest, register, narrow_step, wide_step, wide_step_behind};
 
 use crate::encode::generator;
+use crate::monomials::Monomials;
 use crate::sums::{add_symbols, syndromes};
 use crate::{TooFar, repair};
 use gf256::Gf;
 use std::marker::Model;
 
 /// The tables for words with 2t check symbols: for each symbol, its multiple of the generator polynomial
-/// below the leading coefficient. A multiple is a row of 32 coefficients, from that of x^(2t - 1) down,
-/// the first in the top byte of `high`, the last in the lowest of `low`.
+/// below the leading coefficient, and the values of monomials at the points of the symbols. A multiple is
+/// a row of 32 coefficients, from that of x^(2t - 1) down, the first in the top byte of `high`, the last
+/// in the lowest of `low`. The far rows are what a symbol comes to once another has passed behind it.
 #[derive(Drop)]
 pub struct Coder {
     t: u32,
     high: [u128; 256],
     low: [u128; 256],
+    far_high: [u128; 256],
+    far_low: [u128; 256],
+    points: Monomials,
 }
 
 impl Model for Coder {
@@ -31,7 +36,7 @@ impl Model for Coder {
 
     ghost view = { λ c. c.t };
 
-    ghost invariant = { λ c. AreRows c.t c.high c.low };
+    ghost invariant = { λ c. AreRows c.t c.high c.low × AreFarRows c.high c.low c.far_high c.far_low };
 }
 
 impl Coder {
@@ -41,15 +46,16 @@ impl Coder {
         requires most { t ≤ 16 }
         ensures { result ≡ t }
     {
-        let generator = generator(t);
-        let mut high = [0; 256];
-        let mut low = [0; 256];
-        for f in 0..256 {
-            let row = multiple(&generator, Gf { value: f as u8 });
-            high[f] = packed(&row[..16]);
-            low[f] = packed(&row[16..]);
+        let (high, low) = multiples(&generator(t));
+        let (far_high, far_low) = far_rows(&high, &low);
+        Coder {
+            t,
+            high,
+            low,
+            far_high,
+            far_low,
+            points: Monomials::new(),
         }
-        Coder { t, high, low }
     }
 
     /// Writes the 2t check symbols that make a word of the code behind the symbols.
@@ -147,8 +153,8 @@ impl Coder {
         if rest == [0; 32] {
             return Ok(0);
         }
-        let sums = syndromes(&rest[..2 * self.t as usize], self.t);
-        repair(word, self.t, &sums)
+        let sums = syndromes(&rest[..2 * self.t as usize], self.t, &self.points);
+        repair(word, self.t, &sums, &self.points)
     }
 
     /// Twice t check symbols of a word, and zeros behind them.
@@ -157,13 +163,63 @@ impl Coder {
         ensures most { self.now ≤ 16 }
     {
         if self.t <= 8 {
-            let high = narrow_rest(&self.high, symbols);
+            let high = narrow_rest(&self.high, &self.far_high, symbols);
             symbols_of(high, 0)
         } else {
-            let (high, low) = wide_rest(&self.high, &self.low, symbols);
+            let (high, low) = self.wide_rest(symbols);
             symbols_of(high, low)
         }
     }
+
+    /// Feeds symbols to a register of 32 symbols, two at a time.
+    fn wide_rest(&self, symbols: &[u8]) -> (u128, u128)
+        ensures { IsRest self.now symbols.now (register result.0 result.1) }
+    {
+        let mut high = 0u128;
+        let mut low = 0u128;
+        for s in 0..symbols.len() / 2 {
+            let far = ((high >> 120) as u8 ^ symbols[2 * s]) as usize;
+            let near = ((high >> 112) % 256) as u8 ^ symbols[2 * s + 1];
+            high = high << 16 ^ low >> 112 ^ self.far_high[far] ^ self.high[near as usize];
+            low = low << 16 ^ self.far_low[far] ^ self.low[near as usize];
+        }
+        if symbols.len() % 2 == 0 {
+            return (high, low);
+        }
+        let place = ((high >> 120) as u8 ^ symbols[symbols.len() - 1]) as usize;
+        (
+            high << 8 ^ low >> 120 ^ self.high[place],
+            low << 8 ^ self.low[place],
+        )
+    }
+}
+
+/// The multiples of a polynomial, each in two numbers.
+fn multiples(polynomial: &[Gf; 32]) -> ([u128; 256], [u128; 256])
+    ensures { (f : ℕ) → f < 256 → register (slice_index result.0 f) (slice_index result.1 f) ≡ scaled f (values polynomial.now) }
+{
+    let mut high = [0; 256];
+    let mut low = [0; 256];
+    for f in 0..256 {
+        let row = multiple(polynomial, Gf { value: f as u8 });
+        high[f] = packed(&row[..16]);
+        low[f] = packed(&row[16..]);
+    }
+    (high, low)
+}
+
+/// What each row comes to once the symbol 0 has passed behind it.
+fn far_rows(high: &[u128; 256], low: &[u128; 256]) -> ([u128; 256], [u128; 256])
+    ensures { AreFarRows high.now low.now result.0 result.1 }
+{
+    let mut far_high = [0; 256];
+    let mut far_low = [0; 256];
+    for f in 0..256 {
+        let place = (high[f] >> 120) as usize;
+        far_high[f] = high[f] << 8 ^ low[f] >> 120 ^ high[place];
+        far_low[f] = low[f] << 8 ^ low[place];
+    }
+    (far_high, far_low)
 }
 
 /// The multiple of a polynomial.
@@ -172,13 +228,13 @@ fn multiple(polynomial: &[Gf; 32], factor: Gf) -> [Gf; 32]
 {
     let mut multiple = [Gf::ZERO; 32];
     for k in 0..32 {
-        multiple[k] = factor.mul(polynomial[k]);
+        multiple[k] = polynomial[k].mul_by_doubling(factor);
     }
     multiple
 }
 
 /// Sixteen symbols in one number, the first in the top byte.
-fn packed(symbols: &[Gf]) -> u128
+pub fn packed(symbols: &[Gf]) -> u128
     requires sixteen { length symbols.now ≡ 16 }
     requires elements { All IsElement (values symbols.now) }
     ensures { to_be_bytes w128 result ≡ values symbols.now }
@@ -200,30 +256,22 @@ fn symbols_of(high: u128, low: u128) -> [u8; 32]
     symbols
 }
 
-/// Feeds symbols to a register of 16 symbols, which are enough where t is at most 8.
-fn narrow_rest(rows: &[u128; 256], symbols: &[u8]) -> u128
-    ensures { (t : ℕ) (low : List ℕ) → t ≤ 8 → AreRows t rows.now low → IsRest t symbols.now (register result 0) }
+/// Feeds symbols to a register of 16 symbols, which are enough where t is at most 8, two at a time.
+fn narrow_rest(rows: &[u128; 256], far_rows: &[u128; 256], symbols: &[u8]) -> u128
+    ensures { (t : ℕ) (low far_low : List ℕ) → t ≤ 8 → AreRows t rows.now low → AreFarRows rows.now low far_rows.now far_low
+        → IsRest t symbols.now (register result 0) }
 {
     let mut rest = 0u128;
-    for symbol in symbols {
-        let place = (rest >> 120) as u8 ^ *symbol;
-        rest = rest << 8 ^ rows[place as usize];
+    for s in 0..symbols.len() / 2 {
+        let far = (rest >> 120) as u8 ^ symbols[2 * s];
+        let near = ((rest >> 112) % 256) as u8 ^ symbols[2 * s + 1];
+        rest = rest << 16 ^ far_rows[far as usize] ^ rows[near as usize];
     }
-    rest
-}
-
-/// Feeds symbols to a register of 32 symbols.
-fn wide_rest(high_rows: &[u128; 256], low_rows: &[u128; 256], symbols: &[u8]) -> (u128, u128)
-    ensures { (t : ℕ) → AreRows t high_rows.now low_rows.now → IsRest t symbols.now (register result.0 result.1) }
-{
-    let mut high = 0u128;
-    let mut low = 0u128;
-    for symbol in symbols {
-        let place = ((high >> 120) as u8 ^ *symbol) as usize;
-        high = high << 8 ^ low >> 120 ^ high_rows[place];
-        low = low << 8 ^ low_rows[place];
+    if symbols.len() % 2 == 0 {
+        return rest;
     }
-    (high, low)
+    let place = (rest >> 120) as u8 ^ symbols[symbols.len() - 1];
+    rest << 8 ^ rows[place as usize]
 }
 
 /// Feeds the symbols of several interleaves to their registers of 16 symbols, column by column.

@@ -10,18 +10,21 @@ ghost use Rattle.rs_code.specs.inside.Errors.{IsErrorPattern, sum_of_terms, mome
 
 use crate::ALPHA;
 use crate::key_equation::{KeyPair, key_pair};
+use crate::lanes::{horner_step, products, values_at};
+use crate::monomials::Monomials;
 use gf256::Gf;
 
-/// The exponents of the powers of alpha at which a polynomial is 0, in rising order.
+/// The exponents of the powers of alpha at which a polynomial is 0, in rising order: the first of the
+/// array, whose place behind them is room for what is no root.
 #[derive(Clone, Copy)]
 struct Roots {
-    exponents: [u8; 16],
+    exponents: [u8; 17],
     count: usize,
 }
 
 /// The one error pattern of at most t symbols that a word of this length with these sums can have, in
 /// the first places of the answer; `None` where there is none.
-pub fn find_errors(sums: &[Gf; 32], t: u32, symbols: usize) -> Option<[u8; 255]>
+pub fn find_errors(sums: &[Gf; 32], t: u32, symbols: usize, points: &Monomials) -> Option<[u8; 255]>
     requires least { 1 ≤ t }
     requires most { t ≤ 16 }
     requires short { symbols ≤ 255 }
@@ -30,9 +33,9 @@ pub fn find_errors(sums: &[Gf; 32], t: u32, symbols: usize) -> Option<[u8; 255]>
 {
     let pair = key_pair(sums, t);
     let polynomial = turned(&pair.locator, t);
-    let roots = find_roots(&polynomial, t, symbols);
+    let roots = find_roots(&polynomial, t, symbols, points);
     let exponents = &roots.exponents[..roots.count];
-    let values = error_values(exponents, &pair);
+    let values = error_values(exponents, &pair, t);
     if !have_sums(exponents, &values, sums, t) {
         return None;
     }
@@ -59,7 +62,7 @@ fn turned(polynomial: &[Gf; 17], t: u32) -> [Gf; 17]
 }
 
 /// The roots of a polynomial of degree at most t among the points of a word's symbols.
-fn find_roots(polynomial: &[Gf; 17], t: u32, symbols: usize) -> Roots
+fn find_roots(polynomial: &[Gf; 17], t: u32, symbols: usize, points: &Monomials) -> Roots
     requires most { t ≤ 16 }
     requires short { symbols ≤ 255 }
     requires vector { IsVector 17 (t + 1) (values polynomial.now) }
@@ -67,70 +70,88 @@ fn find_roots(polynomial: &[Gf; 17], t: u32, symbols: usize) -> Roots
     ensures few { result.count ≤ t }
     ensures exponents { take result.count result.exponents ≡ root_exponents (values polynomial.now) symbols }
 {
-    let coefficients = &polynomial[..t as usize + 1];
-    let mut exponents = [0; 16];
+    let values = points.values(&polynomial[..t as usize + 1], (symbols + 15) / 16);
+    let mut exponents = [0; 17];
     let mut count = 0;
-    let mut point = Gf::ONE;
     for n in 0..symbols {
-        if evaluate(coefficients, point).value == 0 {
-            exponents[count] = n as u8;
+        // Written in any case, so that there is no branch to foresee.
+        exponents[count] = n as u8;
+        if values[n] == 0 {
             count += 1;
         }
-        point = point.mul(ALPHA);
     }
     Roots { exponents, count }
 }
 
-/// The value of a polynomial at a point, by Horner's rule.
-fn evaluate(polynomial: &[Gf], point: Gf) -> Gf
-    ensures { result.value ≡ value_at (values polynomial.now) point.value }
-{
-    let mut value = Gf::ZERO;
-    for k in 0..polynomial.len() {
-        value = value.mul(point).add(polynomial[polynomial.len() - 1 - k]);
-    }
-    value
-}
-
-/// The values of the errors at the points with these exponents.
-fn error_values(exponents: &[u8], pair: &KeyPair) -> [Gf; 16]
-    requires { length exponents.now ≤ 16 }
+/// The values of the errors at the points with these exponents: the evaluator at the inverse of an error's
+/// point, divided by the odd part of the locator there, which is x times its derivative (Forney). It is 0
+/// at a double root.
+fn error_values(exponents: &[u8], pair: &KeyPair, t: u32) -> [Gf; 16]
+    requires few { length exponents.now ≤ 16 }
+    requires most { t ≤ 16 }
+    requires locator { IsBelowDegree (t + 1) (values pair.now.locator) }
+    requires evaluator { IsBelowDegree t (values pair.now.evaluator) }
     ensures right { (k : ℕ) → k < length exponents.now
         → IsErrorValue (values pair.now.locator) (values pair.now.evaluator) (slice_index exponents.now k) (slice_index (values result) k) }
     ensures elements { All IsElement (values result) }
 {
-    let mut values = [Gf::ZERO; 16];
-    for k in 0..exponents.len() {
-        values[k] = error_value(pair, exponents[k]);
-    }
-    values
+    let points = inverse_points(exponents);
+    let slopes = odd_parts(&pair.locator[..t as usize + 1], &points);
+    let evaluators = values_at(&pair.evaluator[..t as usize], &points);
+    quotients(&evaluators, &slopes, exponents.len())
 }
 
-/// The evaluator at the inverse of an error's point, divided by the odd part of the locator there, which
-/// is x times its derivative (Forney); 0 at a double root.
-fn error_value(pair: &KeyPair, exponent: u8) -> Gf
-    ensures right { IsErrorValue (values pair.now.locator) (values pair.now.evaluator) exponent result.value }
+/// The inverses of the powers of alpha with these exponents, and 0 behind them.
+fn inverse_points(exponents: &[u8]) -> [Gf; 16]
+    requires { length exponents.now ≤ 16 }
+    ensures { (k : ℕ) → k < length exponents.now
+        → slice_index (values result) k ≡ inverse (power alpha (slice_index exponents.now k)) }
+{
+    let mut points = [Gf::ZERO; 16];
+    for k in 0..exponents.len() {
+        points[k] = ALPHA.pow(exponents[k] as u32).inv();
+    }
+    points
+}
+
+/// The values of the terms of odd degree at sixteen points, by Horner's rule in their squares.
+fn odd_parts(polynomial: &[Gf], points: &[Gf; 16]) -> [Gf; 16]
+    ensures values { (k : ℕ) → k < 16
+        → slice_index (values result) k ≡ value_at (every_other false (values polynomial.now)) (slice_index (values points.now) k) }
+    ensures elements { All IsElement (values result) }
+{
+    let terms = polynomial.len() / 2;
+    let squares = products(points, points);
+    let mut now = [Gf::ZERO; 16];
+    for k in 0..terms {
+        now = horner_step(&now, &squares, polynomial[2 * (terms - k) - 1]);
+    }
+    products(&now, points)
+}
+
+/// The first quotients, place by place, and 0 where the divisor is 0.
+fn quotients(dividends: &[Gf; 16], divisors: &[Gf; 16], count: usize) -> [Gf; 16]
+    requires few { count ≤ 16 }
+    ensures quotients { (k : ℕ) → k < count → slice_index (values divisors.now) k ≢ 0
+        → slice_index (values result) k ≡ times (slice_index (values dividends.now) k) (inverse (slice_index (values divisors.now) k)) }
+    ensures elements { All IsElement (values result) }
+{
+    let mut quotients = [Gf::ZERO; 16];
+    for k in 0..count {
+        quotients[k] = quotient(dividends[k], divisors[k]);
+    }
+    quotients
+}
+
+/// The quotient, or 0 where the divisor is 0.
+fn quotient(dividend: Gf, divisor: Gf) -> Gf
+    ensures quotient { divisor.value ≢ 0 → result.value ≡ times dividend.value (inverse divisor.value) }
     ensures element { IsElement result.value }
 {
-    let at = ALPHA.pow(exponent as u32).inv();
-    let slope = odd_part(&pair.locator, at);
-    if slope.value == 0 {
+    if divisor.value == 0 {
         return Gf::ZERO;
     }
-    evaluate(&pair.evaluator, at).mul(slope.inv())
-}
-
-/// The value of the terms of odd degree at a point, by Horner's rule in its square.
-fn odd_part(polynomial: &[Gf; 17], point: Gf) -> Gf
-    ensures value { result.value ≡ value_at (every_other false (values polynomial.now)) point.value }
-    ensures element { IsElement result.value }
-{
-    let square = point.mul(point);
-    let mut value = Gf::ZERO;
-    for k in 0..8 {
-        value = value.mul(square).add(polynomial[15 - 2 * k]);
-    }
-    value.mul(point)
+    dividend.mul(divisor.inv())
 }
 
 /// Whether errors of these values at the points with these exponents have the first 2t sums.
@@ -146,7 +167,7 @@ fn have_sums(exponents: &[u8], error_values: &[Gf; 16], sums: &[Gf; 32], t: u32)
         if sum_of_first(&terms, exponents.len()).value != sums[i].value {
             return false;
         }
-        multiply_first(&mut terms, exponents.len(), &points);
+        terms = products(&terms, &points);
     }
     true
 }
@@ -173,17 +194,6 @@ fn sum_of_first(terms: &[Gf; 16], count: usize) -> Gf
         sum = sum.add(terms[k]);
     }
     sum
-}
-
-/// Multiplies each of the first terms by its point.
-fn multiply_first(terms: &mut [Gf; 16], count: usize, points: &[Gf; 16])
-    requires { count ≤ 16 }
-    ensures { (k : ℕ) → k < count
-        → slice_index (values terms.new) k ≡ times (slice_index (values terms.old) k) (slice_index (values points.now) k) }
-{
-    for k in 0..count {
-        terms[k] = terms[k].mul(points[k]);
-    }
 }
 
 /// The errors of a word of this length: each value at the symbol whose point is the power of alpha

@@ -9,6 +9,7 @@ ghost use Rattle.rs_code.specs.Polynomial.{value_at, sum_of, IsBelowDegree};
 ghost use Rattle.rs_code.specs.inside.Division.{shifted, HasLength, CanDivide, Reduces, AreInARow};
 
 use gf256::Gf;
+use std::mem::swap;
 
 /// A locator of degree at most t and an evaluator of degree below t that meet the key equation of the
 /// sums of a word: their coefficients, from the constant term on.
@@ -19,13 +20,14 @@ pub struct KeyPair {
 }
 
 /// A remainder of the division, and the factor of the sums that leaves it modulo x^(2t): coefficients
-/// from the constant term on.
+/// from the constant term on. There are 33 of a remainder and 17 of a factor at most; behind them is room,
+/// so that 32 and 16 at a time can be added at each shift.
 #[derive(Clone, Copy)]
 struct Remainder {
-    coefficients: [Gf; 33],
+    coefficients: [Gf; 48],
     /// The number of the coefficients up to the leading one, which is 0 for the remainder 0.
     length: usize,
-    factor: [Gf; 17],
+    factor: [Gf; 32],
 }
 
 /// The error locator and the error evaluator of the first 2t sums of a word. The locator isn't 0, and
@@ -42,12 +44,11 @@ pub fn key_pair(sums: &[Gf; 32], t: u32) -> KeyPair
     let mut above = power(double);
     let mut here = sums_below(sums, double);
     while here.length > t as usize {
-        let next = divided(&above, &here);
-        above = here;
-        here = next;
+        divide(&mut above, &here);
+        swap(&mut above, &mut here);
     }
     KeyPair {
-        locator: here.factor,
+        locator: front(&here.factor),
         evaluator: front(&here.coefficients),
     }
 }
@@ -56,33 +57,33 @@ pub fn key_pair(sums: &[Gf; 32], t: u32) -> KeyPair
 fn power(n: usize) -> Remainder
     requires { n ≤ 32 }
     ensures length { result.length ≡ n + 1 }
-    ensures power { values result.coefficients ≡ shifted n (1 ∷ replicate (32 - n) 0) }
-    ensures factor { values result.factor ≡ replicate 17 0 }
+    ensures power { values result.coefficients ≡ shifted n (1 ∷ replicate (47 - n) 0) }
+    ensures factor { values result.factor ≡ replicate 32 0 }
 {
-    let mut coefficients = [Gf::ZERO; 33];
+    let mut coefficients = [Gf::ZERO; 48];
     coefficients[n] = Gf::ONE;
     Remainder {
         coefficients,
         length: n + 1,
-        factor: [Gf::ZERO; 17],
+        factor: [Gf::ZERO; 32],
     }
 }
 
 /// The polynomial of the first n sums, whose factor is 1.
 fn sums_below(sums: &[Gf; 32], n: usize) -> Remainder
     requires { n ≤ 32 }
-    ensures coefficients { values result.coefficients ≡ take n (values sums.now) ++ replicate (33 - n) 0 }
+    ensures coefficients { values result.coefficients ≡ take n (values sums.now) ++ replicate (48 - n) 0 }
     ensures has_length { HasLength result.length (values result.coefficients) }
     ensures short { result.length ≤ n }
-    ensures factor { values result.factor ≡ 1 ∷ replicate 16 0 }
+    ensures factor { values result.factor ≡ 1 ∷ replicate 31 0 }
     ensures elements { (i : ℕ) → i < n → IsElement (slice_index (values sums.now) i) }
 {
-    let mut coefficients = [Gf::ZERO; 33];
+    let mut coefficients = [Gf::ZERO; 48];
     for i in 0..n {
         // The sum with 0 is known to be an element.
         coefficients[i] = Gf::ZERO.add(sums[i]);
     }
-    let mut factor = [Gf::ZERO; 17];
+    let mut factor = [Gf::ZERO; 32];
     factor[0] = Gf::ONE;
     Remainder {
         coefficients,
@@ -91,42 +92,34 @@ fn sums_below(sums: &[Gf; 32], n: usize) -> Remainder
     }
 }
 
-/// The remainder of `above` by `here`: the one after them in the division.
-fn divided(above: &Remainder, here: &Remainder) -> Remainder
-    requires { CanDivide above.now here.now }
-    ensures { (t : ℕ) (sums : List ℕ) → t ≤ 16 → t < here.now.length → AreInARow t sums above.now here.now
-        → AreInARow t sums here.now result }
+/// Leaves the remainder of `rest` by `here`: the one after them in the division.
+fn divide(rest: &mut Remainder, here: &Remainder)
+    requires { CanDivide rest.old here.now }
+    ensures { (t : ℕ) (sums : List ℕ) → t ≤ 16 → t < here.now.length → AreInARow t sums rest.old here.now
+        → AreInARow t sums here.now rest.new }
 {
-    let mut rest = *above;
     while rest.length >= here.length {
-        rest = reduced(&rest, here);
+        reduce(rest, here);
     }
-    rest
 }
 
 /// Takes the multiple of `here` out of the remainder that takes its leading coefficient away.
-fn reduced(rest: &Remainder, here: &Remainder) -> Remainder
-    requires can_divide { CanDivide rest.now here.now }
-    requires fits { here.now.length ≤ rest.now.length }
-    ensures { Reduces rest.now here.now result }
+fn reduce(rest: &mut Remainder, here: &Remainder)
+    requires can_divide { CanDivide rest.old here.now }
+    requires fits { here.now.length ≤ rest.old.length }
+    ensures { Reduces rest.old here.now rest.new }
 {
     let shift = rest.length - here.length;
     let leading = here.coefficients[here.length - 1];
     let scale = rest.coefficients[rest.length - 1].mul(leading.inv());
-    let mut coefficients = rest.coefficients;
     add_shifted(
-        &mut coefficients,
-        &here.coefficients[..here.length],
+        &mut rest.coefficients,
+        &here.coefficients[..32],
         scale,
         shift,
     );
-    let mut factor = rest.factor;
-    add_shifted(&mut factor, &here.factor[..17 - shift], scale, shift);
-    Remainder {
-        coefficients,
-        length: length_of(&coefficients, rest.length - 1),
-        factor,
-    }
+    add_shifted(&mut rest.factor, &here.factor[..16], scale, shift);
+    rest.length = length_of(&rest.coefficients, rest.length - 1);
 }
 
 /// Adds a multiple of another polynomial, times the power x^shift.
@@ -135,13 +128,13 @@ fn add_shifted(to: &mut [Gf], from: &[Gf], scale: Gf, shift: usize)
     ensures { values to.new ≡ sum_of (values to.old) (scaled scale.value (shifted shift (values from.now))) }
 {
     for j in 0..from.len() {
-        to[shift + j] = to[shift + j].add(scale.mul(from[j]));
+        to[shift + j] = to[shift + j].add(from[j].mul_by_doubling(scale));
     }
 }
 
 /// The number of the coefficients up to the leading one of a polynomial of degree below `most`.
-fn length_of(coefficients: &[Gf; 33], most: usize) -> usize
-    requires within { most ≤ 33 }
+fn length_of(coefficients: &[Gf; 48], most: usize) -> usize
+    requires within { most ≤ 48 }
     requires degree { IsBelowDegree most (values coefficients.now) }
     ensures has_length { HasLength result (values coefficients.now) }
     ensures most { result ≤ most }
@@ -153,11 +146,12 @@ fn length_of(coefficients: &[Gf; 33], most: usize) -> usize
     length
 }
 
-/// The first 16 coefficients.
-fn front(coefficients: &[Gf; 33]) -> [Gf; 16]
-    ensures { result ≡ take 16 coefficients.now }
+/// The first coefficients.
+fn front<const COUNT: usize>(coefficients: &[Gf]) -> [Gf; COUNT]
+    requires { COUNT ≤ length coefficients.now }
+    ensures { result ≡ take COUNT coefficients.now }
 {
-    let mut front = [Gf::ZERO; 16];
-    front.copy_from_slice(&coefficients[..16]);
+    let mut front = [Gf::ZERO; COUNT];
+    front.copy_from_slice(&coefficients[..COUNT]);
     front
 }

@@ -13,6 +13,8 @@ mod coder;
 mod encode;
 mod errors;
 mod key_equation;
+mod lanes;
+mod monomials;
 mod sums;
 
 pub use coder::Coder;
@@ -20,7 +22,8 @@ use encode::{feed, generator};
 use errors::find_errors;
 use gf256::Gf;
 pub use key_equation::{KeyPair, key_pair};
-use sums::{add_symbols, count_errors, syndromes};
+use monomials::Monomials;
+use sums::{add_symbols, count_errors};
 
 /// The element whose powers are the points of the symbols.
 const ALPHA: Gf = Gf { value: 2 };
@@ -63,12 +66,11 @@ pub fn correct(word: &mut [u8], t: u32) -> Result<u32, TooFar>
     ensures too_far { OnErr result ((near : List ℕ) → IsNear t word.old near → ⊥) }
     ensures unchanged { OnErr result (word.new ≡ word.old) }
 {
-    let sums = syndromes(word, t);
-    repair(word, t, &sums)
+    Coder::new(t).correct(word)
 }
 
 /// Corrects a received word whose first 2t weighted sums are given.
-fn repair(word: &mut [u8], t: u32, sums: &[Gf; 32]) -> Result<u32, TooFar>
+fn repair(word: &mut [u8], t: u32, sums: &[Gf; 32], points: &Monomials) -> Result<u32, TooFar>
     requires least { 1 ≤ t }
     requires most { t ≤ 16 }
     requires short { length word.old ≤ 255 }
@@ -81,7 +83,7 @@ fn repair(word: &mut [u8], t: u32, sums: &[Gf; 32]) -> Result<u32, TooFar>
     ensures too_far { OnErr result ((near : List ℕ) → IsNear t word.old near → ⊥) }
     ensures unchanged { OnErr result (word.new ≡ word.old) }
 {
-    let Some(pattern) = find_errors(sums, t, word.len()) else {
+    let Some(pattern) = find_errors(sums, t, word.len(), points) else {
         return Err(TooFar);
     };
     let errors = &pattern[..word.len()];

@@ -1,51 +1,44 @@
 //! The weighted sums of a word, which are 0 for a word of the code.
 
-ghost use Rattle.std.specs.Prelude.{◌≡◌, ℕ, ◌<◌, ◌≤◌, length, slice_index, All};
-ghost use Rattle.gf256.specs.Field.{IsElement, plus, times, power, alpha};
+ghost use Rattle.std.specs.Prelude.{◌≡◌, ℕ, ◌*◌, ◌≤◌, length, take, All};
+ghost use Rattle.gf256.specs.Field.{IsElement, power, alpha};
 ghost use Rattle.gf256.specs.Linear.{values};
 ghost use Rattle.rs_code.specs.Word.{weighted_sum};
 ghost use Rattle.rs_code.specs.Laws.{AreSums};
 ghost use Rattle.rs_code.specs.inside.Errors.{weight};
-ghost use Rattle.rs_code.specs.Polynomial.{sum_of};
+ghost use Rattle.rs_code.specs.Polynomial.{value_at, sum_of};
 
-use crate::ALPHA;
+use crate::monomials::Monomials;
 use gf256::Gf;
 
-/// The first 2t weighted sums of a received word, its syndromes, sum i in place i.
-pub fn syndromes(word: &[u8], t: u32) -> [Gf; 32]
-    requires { t ≤ 16 }
-    ensures sums { AreSums t word.now (values result) }
-    ensures elements { All IsElement word.now }
+/// The first 2t weighted sums of a word, its syndromes, sum i in place i: they are those of its remainder.
+pub fn syndromes(rest: &[u8], t: u32, points: &Monomials) -> [Gf; 32]
+    requires most { t ≤ 16 }
+    requires full { length rest.now ≡ 2 * t }
+    ensures { AreSums t rest.now (values result) }
 {
-    let points = first_powers();
+    let polynomial = polynomial_of(rest);
     let mut sums = [Gf::ZERO; 32];
-    for symbol in word {
-        take_symbol(&mut sums, 2 * t as usize, &points, *symbol);
+    for half in 0..(rest.len() + 15) / 16 {
+        let sixteen = points.first_values(&polynomial[..rest.len()], half);
+        sums[16 * half..16 * half + 16].copy_from_slice(&sixteen);
     }
     sums
 }
 
-/// Takes a further symbol into each of the first sums, by Horner's rule at its point.
-fn take_symbol(sums: &mut [Gf; 32], count: usize, points: &[Gf; 32], symbol: u8)
-    requires few { count ≤ 32 }
-    requires points { (i : ℕ) → i < 32 → slice_index (values points.now) i ≡ power alpha i }
-    ensures { (i : ℕ) → i < count
-        → slice_index (values sums.new) i ≡ plus (times (slice_index (values sums.old) i) (power alpha i)) symbol }
+/// The polynomial of some symbols, of which the last is the constant term: the coefficients from the
+/// constant term on.
+fn polynomial_of(symbols: &[u8]) -> [Gf; 32]
+    requires { length symbols.now ≤ 32 }
+    ensures { (i : ℕ) → value_at (take (length symbols.now) (values result)) (power alpha i) ≡ weighted_sum symbols.now i }
 {
-    for i in 0..count {
-        sums[i] = sums[i].mul(points[i]).add(Gf { value: symbol });
+    let mut polynomial = [Gf::ZERO; 32];
+    for k in 0..symbols.len() {
+        polynomial[k] = Gf {
+            value: symbols[symbols.len() - 1 - k],
+        };
     }
-}
-
-/// The powers of alpha from alpha^0 on.
-fn first_powers() -> [Gf; 32]
-    ensures { (i : ℕ) → i < 32 → slice_index (values result) i ≡ power alpha i }
-{
-    let mut powers = [Gf::ONE; 32];
-    for i in 1..32 {
-        powers[i] = powers[i - 1].mul(ALPHA);
-    }
-    powers
+    polynomial
 }
 
 /// Adds symbols to as many others, place by place.

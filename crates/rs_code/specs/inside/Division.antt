@@ -46,6 +46,7 @@ pub record AreInARow (t : ℕ) (sums : List ℕ) (above here : Remainder) : Type
 pub record CanDivide (rest here : Remainder) : Type 0 where
   pub some : 1 ≤ here.length
   pub within : rest.length ≤ 33
+  pub short : here.length ≤ 32
   pub room : rest.length ≤ here.length + 16
   pub rest_length : HasLength rest.length (values rest.coefficients)
   pub here_length : HasLength here.length (values here.coefficients)
@@ -62,6 +63,6 @@ pub record Reduces (rest here result : Remainder) : Type 0 where
   pub coefficients : values result.coefficients
       ≡ sum_of (values rest.coefficients) (scaled (ratio rest here) (shifted (rest.length - here.length) (take here.length (values here.coefficients))))
   pub factor : values result.factor
-      ≡ sum_of (values rest.factor) (scaled (ratio rest here) (shifted (rest.length - here.length) (take (17 - (rest.length - here.length)) (values here.factor))))
+      ≡ sum_of (values rest.factor) (scaled (ratio rest here) (shifted (rest.length - here.length) (take 16 (values here.factor))))
   pub has_length : HasLength result.length (values result.coefficients)
   pub shorter : result.length < rest.length

@@ -45,3 +45,8 @@ wide_step rows n m symbol = bit_xor (bit_xor ((n * 2 ^ 8) % 2 ^ 128) (m / 2 ^ 12
 
 abbrev pub wide_step_behind : List ℕ → ℕ → ℕ → ℕ → ℕ
 wide_step_behind rows n m symbol = bit_xor ((m * 2 ^ 8) % 2 ^ 128) (slice_index rows (row_place n symbol))
+
+-- the rows once the symbol 0 has been fed behind them
+pub record AreFarRows (high low far_high far_low : List ℕ) : Type 0 where
+  pub front : (f : ℕ) → f < 256 → slice_index far_high f ≡ wide_step high (slice_index high f) (slice_index low f) 0
+  pub back : (f : ℕ) → f < 256 → slice_index far_low f ≡ wide_step_behind low (slice_index high f) (slice_index low f) 0

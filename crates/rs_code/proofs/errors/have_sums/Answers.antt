@@ -23,10 +23,10 @@ loop-i-preserved c =
     let exponents : List ℕ = c.args.exponents.now in
     let i : ℕ = c.loop-i.i in
     record {
-      full = c.multiply_first.array_long;
+      full = omega arith;
       terms = λ k h.
-          next_term (get_or (values c.loop-i.terms) k 0) (get_or (values c.multiply_first.new.terms) k 0) (power alpha (get_or exponents k 0)) (get_or ys k 0) i
-          (c.multiply_first.ensures k h ∙ ap (times (get_or (values c.loop-i.terms) k 0)) (c.points_of-points.ensures k h))
+          next_term (get_or (values c.loop-i.terms) k 0) (get_or (values c.products-terms.result) k 0) (power alpha (get_or exponents k 0)) (get_or ys k 0) i
+          (c.products-terms.ensures.products k (omega (arith, h, c.requires.few)) ∙ ap (times (get_or (values c.loop-i.terms) k 0)) (c.points_of-points.ensures k h))
           (c.loop-i.invariant.terms k h);
       right = below_more _ _ c.loop-i.invariant.right
           (sym (terms_moment (values c.loop-i.terms) ys exponents i

@@ -15,6 +15,6 @@ loop-i-preserved c =
       copied =
           values-set c.loop-i.coefficients i c.add.result
           ∙ ap₂ (λ xs x. set xs i x) c.loop-i.invariant.copied value
-          ∙ sums_more sums i 33 (omega (arith, c.requires)) (omega (arith, c.requires, length-values c.args.sums.now));
+          ∙ sums_more sums i 48 (omega (arith, c.requires)) (omega (arith, c.requires, length-values c.args.sums.now));
       elements = below_more _ _ c.loop-i.invariant.elements (subst IsElement (sym (at-values c.args.sums.now i)) c.add.ensures.elements.1);
     }

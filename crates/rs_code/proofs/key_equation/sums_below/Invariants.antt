@@ -5,6 +5,6 @@ use Rattle.rs_code.proofs.key_equation.sums_below.Given as goal
 
 abbrev pub invariant-loop-i : goal.invariant-loop-i
 invariant-loop-i l = record {
-  copied : values l.coefficients ≡ take l.i (values l.sums) ++ replicate (33 - l.i) 0;
+  copied : values l.coefficients ≡ take l.i (values l.sums) ++ replicate (48 - l.i) 0;
   elements : (k : ℕ) → k < l.i → IsElement (get_or (values l.sums) k 0);
 }

@@ -17,7 +17,7 @@ member c v inside =
     let rest : List ℕ = get_or c.interleaved_checks.result v [] in
     subst (λ t. IsReedSolomonWord t (interleave many v words)
     ↔ ((k : ℕ) → k < length c.split_at.result.1.now / many → get_or c.split_at.result.1.now (k * many + v) 0 ≡ get_or rest k 0)) c.self.view_is
-    (interleaved_member c.self.inside.t many v words c.split_at.result.0.now c.split_at.result.1.now rest c.self.invariant.most inside c.requires.whole
+    (interleaved_member c.self.inside.t many v words c.split_at.result.0.now c.split_at.result.1.now rest c.self.invariant.0.most inside c.requires.whole
     (subst (λ t. 2 * t * many ≤ length words) (sym c.self.view_is) c.requires.long) c.requires.short
     (λ i. omega (arith, c.type_inv.words i)) c.split_at.ensures.front c.split_at.ensures.back
     (subst (λ t. IsRest t (interleave many v c.split_at.result.0.now) rest) (sym c.self.view_is) (c.interleaved_checks.ensures.rests v inside)))

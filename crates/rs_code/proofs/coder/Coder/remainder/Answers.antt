@@ -15,7 +15,7 @@ kept : (c : goal.After-rest-2-1)
     → IsRemainder c.self.inside.t c.args.word.now (take (2 * c.self.inside.t) (rest_of c)) × IsBelowDegree (2 * c.self.inside.t) (rest_of c)
 kept c =
     remainder_kept c.self.inside.t c.args.word.now c.split_at.result.0.now c.split_at.result.1.now c.check_symbols-rest.result c.add_symbols.new.word
-    c.self.invariant.most (omega (arith, c.requires, c.self.view_is))
+    c.self.invariant.0.most (omega (arith, c.requires, c.self.view_is))
     (All-from_get_or IsElement c.args.word.now 0 (λ i h. omega (arith, c.type_inv.word i)))
     c.split_at.ensures.front c.split_at.ensures.back
     (subst (λ t. IsRest t c.split_at.result.0.now c.check_symbols-rest.result) (sym c.self.view_is) c.check_symbols-rest.ensures.rest)
