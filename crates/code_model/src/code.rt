@@ -1,4 +1,4 @@
-ghost use Rattle.std.specs.Prelude.{◌≡◌};
+ghost use Rattle.std.specs.Prelude.{◌≡◌, ◌≤◌, ◌^◌, length};
 ghost use Rattle.code_spec.specs.Code.{IsCode, IsState, IsDataWord};
 ghost use Rattle.code_spec.specs.Output.{row_at};
 
@@ -52,6 +52,26 @@ impl Code {
     {
         let row = self.row(state, word);
         (row.block, row.to)
+    }
+
+    /// How many states the code has, 1 to 512.
+    #[inline]
+    pub fn state_count(&self) -> u32
+        ensures count { result ≡ length self.now.rows }
+        ensures few { result ≤ 512 }
+        ensures table { IsCode self.now }
+    {
+        self.rows.len() as u32
+    }
+
+    /// How many data words there are, 2 to 256: 2^p.
+    #[inline]
+    pub fn word_count(&self) -> u32
+        ensures count { result ≡ 2 ^ self.now.p }
+        ensures few { result ≤ 256 }
+        ensures table { IsCode self.now }
+    {
+        2u32.pow(self.p)
     }
 
     #[inline]

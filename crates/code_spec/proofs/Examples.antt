@@ -1,11 +1,12 @@
 -- The definitions on a code that is known: no two 0s in a row, three symbols for two bits.
-use Rattle.std.proofs.Common.{◌≡◌, ℕ, [], ◌∷◌, ◌++◌, map, Some, refl}
+use Rattle.std.proofs.Common.{◌≡◌, ℕ, [], ◌∷◌, ◌++◌, map, Some, refl, arith}
 use Rattle.std.specs.Prelude.{codes}
 use Rattle.symbol_base.specs.declared.Block.{Block}
 use Rattle.symbol_base.specs.Bits as bits
+use Rattle.symbol_base.specs.Walk.{IsWalk}
 use Rattle.code_spec.specs.declared.CodeRow.{CodeRow}
 use Rattle.code_spec.specs.Code.{CodeData}
-use Rattle.code_spec.specs.Output.{output, state_after}
+use Rattle.code_spec.specs.Output.{output, state_after, IsStep}
 use Rattle.code_spec.specs.PlainText.{file_words, data_words, plain_text, plain_length}
 
 abbrev pub row : ℕ → ℕ → CodeRow
@@ -30,7 +31,24 @@ words-of_1b = refl
 output-of_1b : map (λ (block : Block). block.value) (output no_two_zeros 0 (0 ∷ 0 ∷ 1 ∷ 2 ∷ 3 ∷ 0 ∷ [])) ≡ 2 ∷ 7 ∷ 6 ∷ 5 ∷ 3 ∷ 5 ∷ []
 output-of_1b = refl
 
--- and lead back to state 0
+-- the word 0 leads from state 0 to 1, and the word 3 from there to 2
+step-0 : IsStep no_two_zeros 0 0 1
+step-0 = record { from = omega arith; by = omega arith; to = refl }
+
+step-3 : IsStep no_two_zeros 1 3 2
+step-3 = record { from = omega arith; by = omega arith; to = refl }
+
+walk-03 : IsWalk (IsStep no_two_zeros) 0 (0 ∷ 3 ∷ []) 2
+walk-03 = (1, step-0, (2, step-3, refl))
+
+-- 4 is no data word of two bits, and 3 no state
+no_step-4 : (next : ℕ) → IsStep no_two_zeros 0 4 next → ⊥
+no_step-4 next step = omega (arith, step.by)
+
+no_step-from_3 : (next : ℕ) → IsStep no_two_zeros 3 0 next → ⊥
+no_step-from_3 next step = omega (arith, step.from)
+
+-- and all the words lead back to state 0
 state-after_1b : state_after no_two_zeros.rows 0 (0 ∷ 0 ∷ 1 ∷ 2 ∷ 3 ∷ 0 ∷ []) ≡ 0
 state-after_1b = refl
 

@@ -10,7 +10,8 @@ use Rattle.code_spec.proofs.OutputLaws.{row_in_range}
 next_inside : (c : CodeData) (state word : ℕ) → IsCode c → IsState c state → IsDataWord c word → IsState c (row_at c.rows state word).to
 next_inside c state word code inside below = (row_in_range c state word code inside below).1
 
-words_more : (c : CodeData) (word : ℕ) (words : List ℕ) → IsDataWord c word → IsDataWords c words → IsDataWords c (word ∷ words)
+-- one data word more
+pub words_more : (c : CodeData) (word : ℕ) (words : List ℕ) → IsDataWord c word → IsDataWords c words → IsDataWords c (word ∷ words)
 words_more c word words first rest =
     let P : ℕ → Type 0 = λ word. word < 2 ^ c.p in
     All-from_recursion P (word ∷ words) (first, recursion_from_All P words rest)

@@ -1,3 +1,5 @@
+pub mod Checked
 pub mod Code
 pub mod Output
 pub mod PlainText
+pub mod Witness

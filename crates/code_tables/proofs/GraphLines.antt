@@ -4,6 +4,7 @@ use Rattle.std.specs.Prelude.{IfSome, codes}
 use Rattle.std.proofs.lemmas.Bool.Decides.{nat_tests}
 use Rattle.constraint_spec.specs.declared.GraphEdge.{GraphEdge}
 use Rattle.constraint_spec.specs.Ranges.{IsEdgeBefore}
+use Rattle.constraint_spec.proofs.EdgeOrder.{edge_before_from, edge_before_to}
 use Rattle.code_text_spec.specs.CodeText.{edge_line}
 use Rattle.code_text_spec.specs.LineRules.{Place, at_words, at_edges, IsGraphSize, Keeps, keeps_graph, keeps_edge, IsEnd}
 use Rattle.text_reading.specs.Reading.{field_at, both}
@@ -13,7 +14,7 @@ use Rattle.text_reading.proofs.Steps.{bind_some, guard_some}
 use Rattle.text_reading.proofs.Readers.{field_reads}
 use Rattle.text_reading.proofs.Composed.{both_read}
 use Rattle.text_reading.proofs.LineReaders.{one_line_reads, parts_read}
-use Rattle.code_tables.specs.inside.Reading.{least_edges, most_edges, graph_at, edge_before, edge_follows, edge_fields_at, edge_from, edge_at, edges_at}
+use Rattle.code_tables.specs.inside.Reading.{least_edges, most_edges, graph_at, edge_follows, edge_fields_at, edge_from, edge_at, edges_at}
 use Rattle.code_tables.proofs.LineKinds.{field_text, IsRange, IsNext, ends_at_row}
 use Rattle.code_tables.proofs.TableLines.{two_numbers, two_numbers_read}
 
@@ -55,12 +56,6 @@ graph_line_reads before =
     (λ graph is. keeps_graph before graph.0 graph.1 (sizes_from graph.0 graph.1 is)) (graph_kept before) (ends_at_row (at_words zero before))
 
 -- ---- the edges
-
-edge_before_from : (e f : GraphEdge) → edge_before e f ≡ true → IsEdgeBefore e f
-edge_before_from e f h = grind (arith, nat_tests)
-
-edge_before_to : (e f : GraphEdge) → IsEdgeBefore e f → edge_before e f ≡ true
-edge_before_to e f h = grind (arith, nat_tests)
 
 edge_follows_from : (before : Option GraphEdge) (e : GraphEdge) → edge_follows before e ≡ true → IfSome before (λ b. IsEdgeBefore b e)
 edge_follows_from None e h = tt

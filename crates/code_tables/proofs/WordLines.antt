@@ -3,13 +3,11 @@ use Rattle.std.proofs.Common.{◌≡◌, ℕ, suc, ◌+◌, ◌-◌, ◌<◌, �
 use Rattle.std.specs.Prelude.{◌&&◌, IfSome}
 use Rattle.std.proofs.lemmas.Bool.{and_parts, and_from, le-leb, leb-true}
 use Rattle.std.specs.List.{list_all}
-use Rattle.std.specs.Ordering.{is_lt, nat_cmp}
-use Rattle.std.specs.Cmp.Lexicographic.{slice_cmp}
-use Rattle.std.proofs.lemmas.Bool.Decides.{nat_tests}
 use Rattle.std.proofs.lemmas.List.{take_at, drop_at, take-append-drop, length-take, length-map}
 use Rattle.std.proofs.lemmas.List.Sums.{prefix_len-le-length}
 use Rattle.std.proofs.lemmas.List.Elements.{recursion_from_All, All-from_recursion}
-use Rattle.symbol_base.specs.Word.{IsSmallerAtFirst, IsBefore}
+use Rattle.symbol_base.specs.Word.{IsBefore}
+use Rattle.symbol_base.proofs.WordOrder.{before_from, before_to}
 use Rattle.constraint_spec.specs.Ranges.{IsForbiddable}
 use Rattle.code_text_spec.specs.CodeText.{digits}
 use Rattle.code_text_spec.specs.LineRules.{Place, at_words, Keeps, keeps_word, IsEnd}
@@ -19,29 +17,10 @@ use Rattle.text_reading.specs.LineReader.{one_line, ReadsLines, lines_along, Hol
 use Rattle.text_reading.proofs.Steps.{bind_some, guard_some}
 use Rattle.text_reading.proofs.Readers.{after_text-append, after_text_takes, digits_of_word, symbols_of_digits, digits_again}
 use Rattle.text_reading.proofs.LineReaders.{one_line_reads, parts_read}
-use Rattle.code_tables.specs.inside.Reading.{comes_before, follows, digit_count, digits_at, forbidden_at, forbidden_words_at}
+use Rattle.code_tables.specs.inside.Reading.{follows, digit_count, digits_at, forbidden_at, forbidden_words_at}
 use Rattle.code_tables.proofs.LineKinds.{IsNext, ends_at_row}
 
 -- ---- the order of words
-
-smaller_from : (u v : List ℕ) → length u ≡ length v → is_lt (slice_cmp nat_cmp u v) ≡ true → IsSmallerAtFirst u v
-smaller_from [] [] same less = absurd cc
-smaller_from [] (t ∷ v) same less = absurd (omega arith)
-smaller_from (s ∷ u) [] same less = absurd (omega arith)
-smaller_from (s ∷ u) (t ∷ v) same less = grind (arith, nat_tests, smaller_from u v (omega arith))
-
-smaller_to : (u v : List ℕ) → IsSmallerAtFirst u v → is_lt (slice_cmp nat_cmp u v) ≡ true
-smaller_to [] v less = absurd less
-smaller_to (s ∷ u) [] less = absurd less
-smaller_to (s ∷ u) (t ∷ v) (inl first) = grind (arith, nat_tests)
-smaller_to (s ∷ u) (t ∷ v) (inr later) = let rest = smaller_to u v later.1 in grind (arith, nat_tests)
-
-before_from : (u v : List ℕ) → comes_before u v ≡ true → IsBefore u v
-before_from u v e = grind (arith, nat_tests, smaller_from u v)
-
-before_to : (u v : List ℕ) → IsBefore u v → comes_before u v ≡ true
-before_to u v (inl shorter) = grind (arith, nat_tests)
-before_to u v (inr same) = let less = smaller_to u v same.1 in grind (arith, nat_tests)
 
 follows_from : (before : Option (List ℕ)) (w : List ℕ) → follows before w ≡ true → IfSome before (λ b. IsBefore b w)
 follows_from None w e = tt

@@ -2,12 +2,12 @@ ghost use Rattle.std.specs.Prelude.{◌≡◌, ◌+◌, ◌-◌, ◌^◌, ◌≤
 ghost use Rattle.std.specs.List.{prefix_len};
 ghost use Rattle.text_reading.specs.Reading.{Gives, is_symbol_digit};
 ghost use Rattle.text_reading.specs.LineReader.{one_line, after_all};
-ghost use Rattle.code_tables.specs.inside.Reading.{comes_before, follows, digits_at, forbidden_at, forbidden_words_at};
+ghost use Rattle.code_tables.specs.inside.Reading.{follows, digits_at, forbidden_at, forbidden_words_at};
 ghost use Rattle.code_tables.specs.inside.ReadLines.{GivesLines};
 
 use crate::fault::CodeTextFault;
 use std::alloc::Global;
-use symbol_base::{ByteList, NoMemory};
+use symbol_base::{ByteList, NoMemory, comes_before};
 use text_reading::literal;
 
 /// How many digits of symbols stand in front.
@@ -34,13 +34,6 @@ fn word_digits(bytes: &[u8]) -> Option<(&[u8], &[u8])>
     } else {
         None
     }
-}
-
-/// The first word comes before the second: it is shorter, or as long and smaller.
-fn comes_before(first: &[u8], second: &[u8]) -> bool
-    ensures { result ≡ comes_before first.now second.now }
-{
-    first.len() < second.len() || (first.len() == second.len() && first.cmp(second).is_lt())
 }
 
 fn follows(before: Option<&[u8]>, word: &[u8]) -> bool

@@ -1,6 +1,6 @@
 ghost use Rattle.std.specs.Prelude.{◌≡◌, ◌+◌, ◌-◌, ◌^◌, ◌≤◌, ◌<◌, IfSome, IfOk};
 ghost use Rattle.text_reading.specs.Reading.{Gives};
-ghost use Rattle.code_tables.specs.inside.Reading.{graph_at, edge_before, edge_follows, edge_fields_at, edge_from, edge_at, edges_at};
+ghost use Rattle.code_tables.specs.inside.Reading.{graph_at, edge_follows, edge_fields_at, edge_from, edge_at, edges_at};
 ghost use Rattle.code_tables.specs.inside.ReadLines.{GivesLines};
 
 use crate::fault::CodeTextFault;
@@ -21,21 +21,11 @@ pub fn graph_line(bytes: &[u8]) -> Option<(u32, u64, &[u8])>
     Some((states as u32, edges, rest))
 }
 
-/// The first edge comes before the second: by state, then by label, then by target.
-fn edge_before(first: &GraphEdge, second: &GraphEdge) -> bool
-    ensures { result ≡ edge_before first.now second.now }
-{
-    first.from < second.from
-        || (first.from == second.from
-            && (first.label < second.label
-                || (first.label == second.label && first.to < second.to)))
-}
-
 fn edge_follows(before: Option<GraphEdge>, edge: &GraphEdge) -> bool
     ensures { result ≡ edge_follows before edge.now }
 {
     match before {
-        Some(before) => edge_before(&before, edge),
+        Some(before) => before.comes_before(*edge),
         None => true,
     }
 }

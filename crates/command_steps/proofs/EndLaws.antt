@@ -195,4 +195,27 @@ not_usage row name old new before after status (printed text shelved says) = λ 
 not_usage row name old new before after status (unprinted text shelved says) = λ usage. absurd cc
 not_usage row name old new before after status (told s shelved says) = (sound row name old new (Err s) shelved).not_usage
 
+-- what was delivered is the output of an answer of the row
+abbrev LeavesOutput : Step Answer → List ℕ → Seen → Seen → Result (List ℕ) Status → Type 0
+LeavesOutput row name old new (Ok text) = (answer : Answer) × row old.files (Ok answer) × (new.files ≡ option_map (with_output name answer.output) old.files)
+LeavesOutput row name old new (Err s) = Unit {0}
+
+delivery_leaves : (row : Step Answer) (answer : Answer) (name : List ℕ) (old new : Seen) (result : Result (List ℕ) Status) → row old.files (Ok answer) → Delivers answer name old new result → LeavesOutput row name old new result
+delivery_leaves row answer name old new result at (delivered done kept text is) = (answer, at, kept.written)
+delivery_leaves row answer name old new result at (lost refusal kept s is) = tt
+delivery_leaves row answer name old new result at (broken front) = tt
+
+leaves_output : (row : Step Answer) (name : List ℕ) (old new : Seen) (result : Result (List ℕ) Status) → Shelved row name old new result → LeavesOutput row name old new result
+leaves_output row name old new result (answered answer at same delivers) = delivery_leaves row answer name old new result at delivers
+leaves_output row name old new result (stopped s at refusal same) = tt
+leaves_output row name old new result (failed same counted) = tt
+leaves_output row name old new result (starved same) = tt
+
+-- a command that was done left the output of an answer of its row
+pub done_leaves_output : (row : Step Answer) (name : List ℕ) (old new : Seen) (before after : Said) (status : Status) → Ends row name old new before after status → status ≡ Done
+    → (answer : Answer) × row old.files (Ok answer) × (new.files ≡ option_map (with_output name answer.output) old.files)
+done_leaves_output row name old new before after status (printed text shelved says) done = leaves_output row name old new (Ok text) shelved
+done_leaves_output row name old new before after status (unprinted text shelved says) done = absurd cc
+done_leaves_output row name old new before after status (told s shelved says) done = absurd (not_done row name old new (Err s) shelved done)
+
 pub ruleset ends = (exact, completes, counts_shelf, counts_sink, not_usage)

@@ -3,8 +3,10 @@ use Rattle.std.proofs.Common.{◌≡◌, ℕ, ◌<◌, ◌≤◌, List, length, 
 use Rattle.std.specs.Prelude.{IsSomeAnd}
 use Rattle.shelf_io.specs.Shelf.{Files}
 use Rattle.command_steps.specs.declared.status.Status.{Status}
-use Rattle.command_steps.specs.declared.status.Status.TheVariants.{FileTooLong, CodeRefused, NoMemory, FileMissing}
+use Rattle.command_steps.specs.declared.status.Status.TheVariants.{FileTooLong, ConstraintRefused, TooLarge, CodeRefused, NoMemory, FileMissing}
+use Rattle.constraint_file_spec.specs.declared.fault.ConstraintFault.{ConstraintFault}
 use Rattle.command_steps.specs.declared.status.CodeFault.{CodeFault}
+use Rattle.command_steps.specs.declared.status.Limit.{Limit}
 use Rattle.command_steps.specs.Step.{Step, Gives, gives, Then, stops, goes_on, Needs, holds, fails, Reads, understood, refused_for, InputAt, missing, too_long, found, IsSingle}
 use Rattle.command_steps.specs.Promise.{IsRefusal, Seen, Follows, gave, refused, fault, memory, Decides, gave_alone, refused_alone, memory_alone}
 
@@ -12,6 +14,12 @@ use Rattle.command_steps.specs.Promise.{IsRefusal, Seen, Follows, gave, refused,
 
 pub too_long_is_refusal : (limit : ℕ) → IsRefusal (FileTooLong limit)
 too_long_is_refusal limit = record { not_done = λ e. absurd cc; not_usage = λ e. absurd cc; not_shelf_fault = λ e. absurd cc; not_sink_fault = λ e. absurd cc; not_memory = λ e. absurd cc }
+
+pub constraint_refused_is_refusal : (why : ConstraintFault) → IsRefusal (ConstraintRefused why)
+constraint_refused_is_refusal why = record { not_done = λ e. absurd cc; not_usage = λ e. absurd cc; not_shelf_fault = λ e. absurd cc; not_sink_fault = λ e. absurd cc; not_memory = λ e. absurd cc }
+
+pub too_large_is_refusal : (limit : Limit) → IsRefusal (TooLarge limit)
+too_large_is_refusal limit = record { not_done = λ e. absurd cc; not_usage = λ e. absurd cc; not_shelf_fault = λ e. absurd cc; not_sink_fault = λ e. absurd cc; not_memory = λ e. absurd cc }
 
 pub code_refused_is_refusal : (why : CodeFault) → IsRefusal (CodeRefused why)
 code_refused_is_refusal why = record { not_done = λ e. absurd cc; not_usage = λ e. absurd cc; not_shelf_fault = λ e. absurd cc; not_sink_fault = λ e. absurd cc; not_memory = λ e. absurd cc }

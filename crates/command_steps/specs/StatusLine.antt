@@ -1,10 +1,9 @@
 -- The exit status of each way in which a command ends, and the line that is printed.
 use Rattle.std.specs.Prelude.{ℕ, List, [], ◌∷◌, ◌++◌, codes}
 use Rattle.std.specs.Fmt.{decimal}
-use Rattle.command_steps.specs.declared.status.CodeFault.{CodeFault}
-use Rattle.command_steps.specs.declared.status.CodeFault.TheVariants.{BadCode, NotWord}
 use Rattle.command_steps.specs.declared.status.Status.{Status}
-use Rattle.command_steps.specs.declared.status.Status.TheVariants.{Done, Usage, ShelfFault, SinkFault, FileTooLong, CodeRefused, NoMemory, FileMissing}
+use Rattle.command_steps.specs.declared.status.Status.TheVariants.{Done, Usage, ShelfFault, SinkFault, FileTooLong, ConstraintRefused, TooLarge, CodeRefused, NoMemory, FileMissing}
+use Rattle.command_steps.specs.FaultLines.{line_of_constraint_fault, line_of_limit, line_of_code_fault}
 
 abbrev pub exit_status : Status → ℕ
 exit_status Done = 0
@@ -12,14 +11,11 @@ exit_status Usage = 1
 exit_status ShelfFault = 2
 exit_status SinkFault = 3
 exit_status (FileTooLong limit) = 4
+exit_status (ConstraintRefused fault) = 5
+exit_status (TooLarge limit) = 6
 exit_status (CodeRefused fault) = 9
 exit_status NoMemory = 13
 exit_status (FileMissing place) = 14
-
--- the line of a refused code file, with its line feed
-abbrev pub line_of_code_fault : CodeFault → List ℕ
-line_of_code_fault (BadCode line) = codes "code refused: line " ++ decimal line ++ 10 ∷ []
-line_of_code_fault NotWord = codes "code refused: not a word" ++ 10 ∷ []
 
 -- the line of a status, with its line feed; a command that was done has none
 abbrev pub line_of_status : Status → List ℕ
@@ -28,6 +24,8 @@ line_of_status Usage = codes "usage" ++ 10 ∷ []
 line_of_status ShelfFault = codes "shelf fault" ++ 10 ∷ []
 line_of_status SinkFault = codes "sink fault" ++ 10 ∷ []
 line_of_status (FileTooLong limit) = codes "file too long " ++ decimal limit ++ 10 ∷ []
+line_of_status (ConstraintRefused fault) = line_of_constraint_fault fault
+line_of_status (TooLarge limit) = line_of_limit limit
 line_of_status (CodeRefused fault) = line_of_code_fault fault
 line_of_status NoMemory = codes "out of memory" ++ 10 ∷ []
 line_of_status (FileMissing place) = codes "missing file: word " ++ decimal place ++ 10 ∷ []

@@ -3,6 +3,7 @@
 
 mod answer;
 mod input;
+mod lines;
 mod printing;
 mod status;
 #[cfg(test)]
@@ -10,5 +11,6 @@ mod tests;
 
 pub use answer::{Reply, deliver};
 pub use input::read_input;
+pub use lines::{status_line, write_behind_spaces};
 pub use printing::{print_all, print_line};
-pub use status::{CodeFault, Status, status_line};
+pub use status::{CodeFault, Limit, Status};

@@ -1,7 +1,8 @@
 ghost use Rattle.std.specs.Prelude.{◌≡◌};
 ghost use Rattle.command_steps.specs.Printing.{said, IsPrinted, SaysLine};
 
-use crate::status::{Status, status_line};
+use crate::lines::status_line;
+use crate::status::Status;
 use shelf_io::{Failed, TextSink};
 use std::alloc::Global;
 

@@ -1,16 +1,29 @@
-ghost use Rattle.std.specs.Prelude.{◌≡◌, ◌<◌, string_bytes, IfOk};
-ghost use Rattle.command_steps.specs.StatusLine.{exit_status, line_of_status, line_of_code_fault};
+ghost use Rattle.std.specs.Prelude.{◌≡◌};
+ghost use Rattle.command_steps.specs.StatusLine.{exit_status};
 
-use std::alloc::{AllocError, AllocFailed, Global};
-use symbol_base::{ByteList, NoMemory};
+use code_spec::Walk;
+use constraint_file_spec::ConstraintFault;
+use std::alloc::{AllocError, AllocFailed};
+use symbol_base::{NoMemory, WordList};
 
 /// Why a code file is refused.
 #[derive(Debug, PartialEq, Eq, Drop)]
 pub enum CodeFault {
     /// The number, from 1, of the first line that breaks its rule.
     BadCode(u64),
-    /// What the code writes for the data isn't a word of its constraint.
-    NotWord,
+    /// The first data words, shorter lists first, for which the code writes no word of its constraint.
+    OutOfConstraint(WordList),
+    /// The first two walks that write the same blocks, while the window is to tell different words.
+    Ambiguous(Walk, Walk),
+}
+
+/// A counted number that is over its limit, with its value.
+#[derive(Clone, Copy, Debug, PartialEq, Eq)]
+pub enum Limit {
+    /// The raw states of the constraint's words, as far as they are counted: one more than the limit.
+    RawStates(u32),
+    /// The states of the constraint's cover.
+    CoverStates(u32),
 }
 
 /// How a command ended.
@@ -26,6 +39,10 @@ pub enum Status {
     SinkFault,
     /// A file that was read, or the text that would have been written, has more bytes than this limit.
     FileTooLong(u64),
+    /// The constraint file is refused.
+    ConstraintRefused(ConstraintFault),
+    /// A counted number is over its limit.
+    TooLarge(Limit),
     /// The code file is refused.
     CodeRefused(CodeFault),
     /// Memory was wanted and not found.
@@ -45,45 +62,13 @@ impl Status {
             Status::ShelfFault => 2,
             Status::SinkFault => 3,
             Status::FileTooLong(_) => 4,
+            Status::ConstraintRefused(_) => 5,
+            Status::TooLarge(_) => 6,
             Status::CodeRefused(_) => 9,
             Status::NoMemory => 13,
             Status::FileMissing(_) => 14,
         }
     }
-}
-
-/// The line that is printed for a status, with its line feed; no text where the command was done.
-pub fn status_line(alloc: Global, status: &Status) -> Result<ByteList, NoMemory>
-    ensures { IfOk result (λ line. line ≡ line_of_status status.now) }
-{
-    let line = line_text(alloc, status)?;
-    Ok(ByteList::from_vec(line.into_bytes()))
-}
-
-fn line_text(alloc: Global, status: &Status) -> Result<String, NoMemory>
-    ensures { IfOk result (λ line. string_bytes line ≡ line_of_status status.now) }
-{
-    let line = match status {
-        Status::Done => String::from_str(alloc, "")?,
-        Status::Usage => String::from_str(alloc, "usage\n")?,
-        Status::ShelfFault => String::from_str(alloc, "shelf fault\n")?,
-        Status::SinkFault => String::from_str(alloc, "sink fault\n")?,
-        Status::FileTooLong(limit) => format!(in alloc; "file too long {limit}\n")?,
-        Status::CodeRefused(fault) => code_fault_text(alloc, fault)?,
-        Status::NoMemory => String::from_str(alloc, "out of memory\n")?,
-        Status::FileMissing(place) => format!(in alloc; "missing file: word {place}\n")?,
-    };
-    Ok(line)
-}
-
-fn code_fault_text(alloc: Global, fault: &CodeFault) -> Result<String, NoMemory>
-    ensures { IfOk result (λ line. string_bytes line ≡ line_of_code_fault fault.now) }
-{
-    let line = match fault {
-        CodeFault::BadCode(line) => format!(in alloc; "code refused: line {line}\n")?,
-        CodeFault::NotWord => String::from_str(alloc, "code refused: not a word\n")?,
-    };
-    Ok(line)
 }
 
 impl From<NoMemory> for Status {

@@ -1,14 +1,29 @@
-ghost use Rattle.std.specs.Prelude.{◌≡◌};
+mod limits;
+mod refused;
+mod taken;
 
-use crate::constraint_text;
-use constraint_model::Constraint;
+use crate::{ConstraintFault, Key, constraint_text, read_constraint};
+use std::alloc::Global;
 use std::process::Abort;
 use std::test::Fail;
+use symbol_base::ByteList;
 
-#[test]
-fn runs_alone_have_five_lines(rt: HostRuntime) -> Result<(), Fail> {
-    let constraint = Constraint::run_length(rt.alloc(), 1, Some(7));
-    let text = constraint_text(rt.alloc(), &constraint)?;
-    assert!(rt; text.as_slice() == b"alphabet 2\nd 1\nk 7\nforbid 0\ngraph 0 0\n".as_slice());
+/// Reads the file, and compares the lines of its constraint.
+fn check_read(rt: &impl Abort, alloc: Global, file: &[u8], lines: &str) -> Result<(), Fail> {
+    match read_constraint(alloc, file) {
+        Ok(constraint) => {
+            let text = constraint_text(alloc, &constraint)?;
+            assert!(rt; text.as_slice() == lines.as_bytes());
+        }
+        Err(_) => assert!(rt; false),
+    }
     Ok(())
+}
+
+/// Reads the file, and compares the refusal.
+fn check_refused(rt: &impl Abort, alloc: Global, file: &[u8], fault: ConstraintFault) {
+    match read_constraint(alloc, file) {
+        Ok(_) => assert!(rt; false),
+        Err(found) => assert!(rt; found == fault),
+    }
 }

@@ -1,7 +1,9 @@
-ghost use Rattle.std.specs.Prelude.{◌≡◌, ℕ, ◌+◌, ◌<◌, List, [], ◌∷◌, ◌++◌, All, length, map, string_bytes, IfOk, OnOk, codes};
+ghost use Rattle.std.specs.Prelude.{◌≡◌, ℕ, ◌+◌, ◌<◌, List, [], ◌∷◌, ◌++◌, All, length, map, string_bytes, IfOk, OnOk, codes, None};
 ghost use Rattle.std.specs.Fmt.{decimal};
+ghost use Rattle.constraint_file_spec.specs.Keys.{key_name};
 ghost use Rattle.code_text_spec.specs.CodeText.{spaced, digits, limit, edge_line, constraint_lines, text_of};
 
+use constraint_file_spec::Key;
 use constraint_model::{Constraint, GraphEdge};
 use std::alloc::Global;
 use symbol_base::{ByteList, NoMemory};
@@ -31,15 +33,30 @@ fn write_runs(constraint: &Constraint, text: &mut String) -> Result<(), NoMemory
         spaced (codes "alphabet") (decimal constraint.now.alphabet) ∷ spaced (codes "d") (decimal constraint.now.d)
         ∷ spaced (codes "k") (limit constraint.now.k) ∷ spaced (codes "forbid") (decimal (length constraint.now.forbid)) ∷ [])) }
 {
-    let alphabet = constraint.alphabet;
-    let d = constraint.d;
-    write!(text, "alphabet {alphabet}\nd {d}\n")?;
+    write_number(Key::Alphabet, u64::from(constraint.alphabet), text)?;
+    write_number(Key::D, u64::from(constraint.d), text)?;
     match constraint.k {
-        Some(k) => write!(text, "k {k}\n")?,
-        None => text.push_str("k -\n")?,
+        Some(k) => write_number(Key::K, u64::from(k), text)?,
+        None => write_no_limit(text)?,
     }
-    let words = constraint.forbid.len();
-    write!(text, "forbid {words}\n")?;
+    write_number(Key::Forbid, constraint.forbid.len() as u64, text)
+}
+
+/// The line of a key with a number.
+fn write_number(key: Key, number: u64, text: &mut String) -> Result<(), NoMemory>
+    ensures { OnOk result (string_bytes text.new ≡ string_bytes text.old ++ text_of (spaced (key_name key) (decimal number) ∷ [])) }
+{
+    let name = key.name();
+    write!(text, "{name} {number}\n")?;
+    Ok(())
+}
+
+/// The line of the runs of 0s where they have no limit.
+fn write_no_limit(text: &mut String) -> Result<(), NoMemory>
+    ensures { OnOk result (string_bytes text.new ≡ string_bytes text.old ++ text_of (spaced (codes "k") (limit None) ∷ [])) }
+{
+    let name = Key::K.name();
+    write!(text, "{name} -\n")?;
     Ok(())
 }
 

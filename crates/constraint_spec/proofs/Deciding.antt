@@ -32,7 +32,9 @@ Decides-below n (Some k) = (ltb-true n k, lt-ltb n k)
 abbrev EndsForbidden : List (List ℕ) → List ℕ → Type 0
 EndsForbidden forbid w = Any (λ v. IsSuffix v w) forbid
 
-Decides-ends : (forbid : List (List ℕ)) (w : List ℕ) → Decides (list_any (ends_with nat_eq w) forbid) (EndsForbidden forbid w)
+Decides-ends :
+    (forbid : List (List ℕ)) (w : List ℕ)
+    → Decides (list_any (ends_with nat_eq w) forbid) (EndsForbidden forbid w)
 Decides-ends forbid w =
     let tested = λ (v : List ℕ). ends_is Decides-eqb w v (ends_with nat_eq w v) refl in (
       (λ yes.
@@ -55,7 +57,8 @@ Decides-free forbid w =
 -- the test that a list has no item
 Decides-empty : {X : Type 0} (xs : List X) → Decides (nat_eq (length xs) 0) (xs ≡ [])
 Decides-empty [] = ((λ yes. refl), (λ none. refl))
-Decides-empty (x ∷ xs) = ((λ yes. absurd (let none = eqb-true (length (x ∷ xs)) 0 yes in omega arith)), (λ none. absurd (cc)))
+Decides-empty (x ∷ xs) =
+    ((λ yes. absurd (let none = eqb-true (length (x ∷ xs)) 0 yes in omega arith)), (λ none. absurd (cc)))
 
 -- a list with an item, or an item of a list
 some_listed : (xs : List ℕ) → xs ≢ [] → (x : ℕ) × Contains xs x
@@ -96,7 +99,9 @@ Decides-walked :
     (c : ConstraintData) (raw : RawState) (symbol : ℕ) → IsConstraint c
     → Decides (nat_eq (length c.edges) 0 || not (nat_eq (length (next_raw_state c raw symbol).ends) 0))
     (c.edges ≢ [] → (from : ℕ) × (to : ℕ) × Contains raw.ends from × HasEdge c.edges from symbol to)
-Decides-walked c raw symbol ranges = by_empty (nat_eq (length c.edges) 0) (not (nat_eq (length (next_raw_state c raw symbol).ends) 0)) (Decides-empty c.edges) (Decides-led c raw symbol ranges)
+Decides-walked c raw symbol ranges =
+    by_empty (nat_eq (length c.edges) 0) (not (nat_eq (length (next_raw_state c raw symbol).ends) 0))
+    (Decides-empty c.edges) (Decides-led c raw symbol ranges)
 
 -- the test of what may follow
 pub Decides-may_follow :
@@ -144,7 +149,8 @@ reads_by c u symbol w false b longer back rest =
 reads_behind :
     (c : ConstraintData) (u w : List ℕ) (raw : RawState) → IsConstraint c → IsRawStateOf c u raw → IsWordOf c u
     → Decides (may_be_read c raw w) (IsWordOf c (u ++ w))
-reads_behind c u [] raw ranges known word = ((λ yes. subst (λ w. IsWordOf c w) (sym (append-nil u)) word), (λ all. refl))
+reads_behind c u [] raw ranges known word =
+    ((λ yes. subst (λ w. IsWordOf c w) (sym (append-nil u)) word), (λ all. refl))
 reads_behind c u (symbol ∷ w) raw ranges known word =
     let law = IsWordOf-push c u raw symbol ranges known in
     let tested = Decides-may_follow c raw symbol ranges in
@@ -155,5 +161,8 @@ reads_behind c u (symbol ∷ w) raw ranges known word =
     (λ yes. law.1 (word, tested.0 yes)) (λ longer. tested.1 (law.0 longer).1) rest
 
 -- the test of a word from symbol to symbol
-pub Decides-word : (c : ConstraintData) (w : List ℕ) → IsConstraint c → Decides (may_be_read c (first_raw_state c) w) (IsWordOf c w)
-Decides-word c w ranges = reads_behind c [] w (first_raw_state c) ranges (raw_state_of_word c [] ranges) (IsWordOf-nil c ranges)
+pub Decides-word :
+    (c : ConstraintData) (w : List ℕ) → IsConstraint c
+    → Decides (may_be_read c (first_raw_state c) w) (IsWordOf c w)
+Decides-word c w ranges =
+    reads_behind c [] w (first_raw_state c) ranges (raw_state_of_word c [] ranges) (IsWordOf-nil c ranges)

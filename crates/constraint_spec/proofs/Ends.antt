@@ -13,7 +13,7 @@ use Rattle.constraint_spec.specs.Walk.{HasEdge}
 use Rattle.constraint_spec.specs.Constraint.{ConstraintData}
 use Rattle.constraint_spec.specs.Ranges.{IsConstraint, IsEdgeOf}
 use Rattle.constraint_spec.specs.RawStateOf.{is_led}
-use Rattle.constraint_spec.proofs.Lists.{Contains-range, filter_keeps, filter_kept}
+use Rattle.symbol_base.proofs.AscendingNumbers.{Contains-range, filter_keeps, filter_kept}
 
 -- the test whether a number is listed
 listed_tested : (xs : List ℕ) (x : ℕ) → (list_any (nat_eq x) xs ≡ true) ↔ Contains xs x
@@ -32,7 +32,8 @@ pub led_tested :
 led_tested edges from symbol to =
     let test = λ (e : GraphEdge). nat_eq e.label symbol && (nat_eq e.to to && list_any (nat_eq e.from) from) in
     let tested = λ (e : GraphEdge). Decides-and (nat_eq e.label symbol) (nat_eq e.to to && list_any (nat_eq e.from) from)
-    (Decides-eqb e.label symbol) (Decides-and (nat_eq e.to to) (list_any (nat_eq e.from) from) (Decides-eqb e.to to) (listed_tested from e.from)) in (
+    (Decides-eqb e.label symbol)
+    (Decides-and (nat_eq e.to to) (list_any (nat_eq e.from) from) (Decides-eqb e.to to) (listed_tested from e.from)) in (
       (λ yes.
           let found = Any-from_list_any test edges yes in
           let parts = (tested found.1).0 found.4 in

@@ -25,7 +25,15 @@ edge from label to = record { from = from; label = label; to = to }
 
 -- d 0, k 3, no 11, and the edge A-0-A
 abbrev all_parts : ConstraintData
-all_parts = record { alphabet = 2; d = 0; k = Some 3; forbid = (1 ∷ 1 ∷ []) ∷ []; states = 1; edges = edge 0 0 0 ∷ [] }
+all_parts = record {
+  alphabet =
+      2;
+  d = 0;
+  k = Some 3;
+  forbid = (1 ∷ 1 ∷ []) ∷ [];
+  states = 1;
+  edges = edge 0 0 0 ∷ [];
+}
 
 all_parts_ranges : IsConstraint all_parts
 all_parts_ranges = record {
@@ -128,14 +136,35 @@ walk-nothing : IsWalk (HasEdge cycle) 1 [] 1
 walk-nothing = refl
 
 -- raw states: the 0s behind the last 1 up to the limit, how much of a forbidden word, and where walks end
-raw_state_of_1000 : raw_state mfm (0 ∷ 1 ∷ 0 ∷ 0 ∷ 0 ∷ []) ≡ record { after_one = true; zeros = 3; matched = []; ends = [] }
+raw_state_of_1000 :
+    raw_state mfm (0 ∷ 1 ∷ 0 ∷ 0 ∷ 0 ∷ []) ≡ record { after_one = true; zeros = 3; matched = []; ends = [] }
 raw_state_of_1000 = refl
 
-raw_state_of_zeros : raw_state far_ones (0 ∷ 0 ∷ 0 ∷ []) ≡ record { after_one = false; zeros = 2; matched = []; ends = [] }
+raw_state_of_zeros :
+    raw_state far_ones (0 ∷ 0 ∷ 0 ∷ []) ≡ record { after_one = false; zeros = 2; matched = []; ends = [] }
 raw_state_of_zeros = refl
 
-raw_state_of_110 : raw_state no_101 (1 ∷ 1 ∷ 0 ∷ []) ≡ record { after_one = true; zeros = 0; matched = 1 ∷ 0 ∷ []; ends = [] }
+raw_state_of_110 :
+    raw_state no_101 (1 ∷ 1 ∷ 0 ∷ []) ≡ record { after_one = true; zeros = 0; matched = 1 ∷ 0 ∷ []; ends = [] }
 raw_state_of_110 = refl
 
-raw_state_of_10 : raw_state in_turn (1 ∷ 0 ∷ []) ≡ record { after_one = true; zeros = 0; matched = []; ends = 0 ∷ [] }
+raw_state_of_10 :
+    raw_state in_turn (1 ∷ 0 ∷ []) ≡ record { after_one = true; zeros = 0; matched = []; ends = 0 ∷ [] }
 raw_state_of_10 = refl
+
+-- with no symbol: no 1, no 0, nothing of a forbidden word, and walks end at each state
+raw_state_of_nothing : raw_state in_turn [] ≡ record { after_one = false; zeros = 0; matched = []; ends = 0 ∷ 1 ∷ [] }
+raw_state_of_nothing = refl
+
+-- a symbol other than 0 and 1 ends a run as a 1 does, but asks for no 0s behind it
+abbrev three_symbols : ConstraintData
+three_symbols = record { alphabet = 3; d = 2; k = None; forbid = []; states = 0; edges = [] }
+
+raw_state_of_120 : raw_state three_symbols (1 ∷ 2 ∷ 0 ∷ []) ≡ record { after_one = false; zeros = 1; matched = []; ends = [] }
+raw_state_of_120 = refl
+
+word-121 : may_be_read three_symbols (first_raw_state three_symbols) (1 ∷ 2 ∷ 1 ∷ []) ≡ true
+word-121 = refl
+
+no_word-101 : may_be_read three_symbols (first_raw_state three_symbols) (1 ∷ 0 ∷ 1 ∷ []) ≡ false
+no_word-101 = refl

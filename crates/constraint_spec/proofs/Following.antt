@@ -18,7 +18,8 @@ use Rattle.constraint_spec.proofs.Words.{IsWordOf-factor}
 -- a longer word keeps d
 keeps_d :
     (c : ConstraintData) (w : List ℕ) (raw : RawState) (symbol n : ℕ) → IsRawStateOf c w raw
-    → (symbol ≡ 1 → raw.after_one ≡ true → c.d ≤ raw.zeros) → IsSuffix (1 ∷ (replicate n 0 ++ 1 ∷ [])) (w ++ symbol ∷ [])
+    → (symbol ≡ 1 → raw.after_one ≡ true → c.d ≤ raw.zeros)
+    → IsSuffix (1 ∷ (replicate n 0 ++ 1 ∷ [])) (w ++ symbol ∷ [])
     → c.d ≤ n
 keeps_d c w raw symbol n known may end =
     let split = suffix_less (1 ∷ replicate n 0) w 1 symbol end in
@@ -41,7 +42,8 @@ one_follows c w raw symbol ranges known word is_one after =
     let end : IsSuffix ((1 ∷ replicate run.0 0) ++ 1 ∷ []) (w ++ symbol ∷ []) =
     subst (λ s. IsSuffix ((1 ∷ replicate run.0 0) ++ 1 ∷ []) (w ++ s ∷ [])) (sym is_one) (suffix_more (1 ∷ replicate run.0 0) w 1 run.1) in
     let enough = word.ones run.0 (IsFactor-suffix _ _ end) in
-    let zeros : IsSuffix (replicate run.0 0) w = IsSuffix-trans (replicate run.0 0) (1 ∷ replicate run.0 0) w (record { before = 1 ∷ []; joined = refl }) run.1 in
+    let behind : IsSuffix (replicate run.0 0) (1 ∷ replicate run.0 0) = record { before = 1 ∷ []; joined = refl } in
+    let zeros = IsSuffix-trans (replicate run.0 0) (1 ∷ replicate run.0 0) w behind run.1 in
     (known.zeros c.d).1 (counts_d c.k c.d ranges.k, fewer_zeros c.d run.0 w enough zeros)
 
 -- a longer word keeps k
@@ -66,7 +68,8 @@ keeps_k (Some k) d w counted symbol known may none = λ found.
 zero_follows :
     (k : Option ℕ) (d : ℕ) (w : List ℕ) (counted symbol : ℕ)
     → ((count : ℕ) → (count ≤ counted) ↔ ((count ≤ unwrap_or k d) × IsSuffix (replicate count 0) w))
-    → IfSome k (λ k. IsFactor (replicate (k + 1) 0) (w ++ symbol ∷ []) → ⊥) → symbol ≡ 0 → IfSome k (λ k. counted < k)
+    → IfSome k (λ k. IsFactor (replicate (k + 1) 0) (w ++ symbol ∷ []) → ⊥) → symbol ≡ 0
+    → IfSome k (λ k. counted < k)
 zero_follows None d w counted symbol known none is_zero = tt
 zero_follows (Some k) d w counted symbol known none is_zero = elim (cases_lt counted k) [
   | inl less ↦ less
@@ -80,7 +83,8 @@ zero_follows (Some k) d w counted symbol known none is_zero = elim (cases_lt cou
 
 forbidden_by :
     (c : ConstraintData) (w : List ℕ) (raw : RawState) (symbol : ℕ) (v : List ℕ) → IsRawStateOf c w raw
-    → IsWordOf c w → ((v : List ℕ) → Contains c.forbid v → IsSuffix v (raw.matched ++ symbol ∷ []) → ⊥) → Contains c.forbid v
+    → IsWordOf c w → ((v : List ℕ) → Contains c.forbid v → IsSuffix v (raw.matched ++ symbol ∷ []) → ⊥)
+    → Contains c.forbid v
     → IsSuffix v (w ++ symbol ∷ []) → (v ≡ []) ⊎ ((front : List ℕ) × (last : ℕ) × (v ≡ front ++ last ∷ [])) → ⊥
 forbidden_by c w raw symbol v known word may listed end (inl none) =
     word.forbidden v listed (subst (λ v. IsFactor v w) (sym none) (IsFactor-front [] w))

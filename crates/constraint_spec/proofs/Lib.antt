@@ -1,11 +1,11 @@
 pub mod Factors
 pub mod Suffixes
 pub mod RawParts
-pub mod Lists
 pub mod Ends
 pub mod RawStates
 pub mod Following
 pub mod Deciding
 mod Examples
+pub mod EdgeOrder
 pub mod Walks
 pub mod Words

@@ -21,7 +21,8 @@ one_before_zero (suc zeros) w end =
     let split = subst (λ run. IsSuffix (1 ∷ run) (w ++ 0 ∷ [])) (sym (zeros_push zeros)) end in
     (zeros, (suffix_less (1 ∷ replicate zeros 0) w 0 0 split).0)
 
-no_one_before : (zeros other : ℕ) (w : List ℕ) → IsSuffix (1 ∷ replicate zeros 0) (w ++ suc (suc other) ∷ []) → ⊥
+no_one_before :
+    (zeros other : ℕ) (w : List ℕ) → IsSuffix (1 ∷ replicate zeros 0) (w ++ suc (suc other) ∷ []) → ⊥
 no_one_before zero other w end = let same = suffix_less [] w 1 (suc (suc other)) end in cc
 no_one_before (suc zeros) other w end =
     let split = subst (λ run. IsSuffix (1 ∷ run) (w ++ suc (suc other) ∷ [])) (sym (zeros_push zeros)) end in
@@ -45,7 +46,8 @@ zeros_by :
     (limit run : ℕ) (w : List ℕ) (symbol count : ℕ)
     → ((count : ℕ) → (count ≤ run) ↔ ((count ≤ limit) × IsSuffix (replicate count 0) w))
     → (count ≤ next_zeros limit run symbol) ↔ ((count ≤ limit) × IsSuffix (replicate count 0) (w ++ symbol ∷ []))
-zeros_by limit run w symbol zero known = ((λ fits. (omega arith, IsSuffix-nil (w ++ symbol ∷ []))), (λ some. omega arith))
+zeros_by limit run w symbol zero known =
+    ((λ fits. (omega arith, IsSuffix-nil (w ++ symbol ∷ []))), (λ some. omega arith))
 zeros_by limit run w zero (suc count) known = (
   (λ fits.
       let before = (known count).0 (omega arith) in
@@ -75,7 +77,8 @@ starts_prefix w v =
     ((λ yes. record { after = _; joined = tested.0 yes }), (λ begins. tested.1 begins.after begins.joined))
 
 -- the test whether a forbidden word begins with v
-pub begins_tested : (forbid : List (List ℕ)) (v : List ℕ) → (begins_forbidden forbid v ≡ true) ↔ BeginsForbidden forbid v
+pub begins_tested :
+    (forbid : List (List ℕ)) (v : List ℕ) → (begins_forbidden forbid v ≡ true) ↔ BeginsForbidden forbid v
 begins_tested forbid v = (
   (λ yes.
       let found = Any-from_list_any (λ w. starts_with nat_eq w v) forbid yes in
@@ -85,7 +88,8 @@ begins_tested forbid v = (
 )
 
 -- where a forbidden word begins with a word, it begins with each prefix of that
-begins_less : (forbid : List (List ℕ)) (v u : List ℕ) → BeginsForbidden forbid (v ++ u) → BeginsForbidden forbid v
+begins_less :
+    (forbid : List (List ℕ)) (v u : List ℕ) → BeginsForbidden forbid (v ++ u) → BeginsForbidden forbid v
 begins_less forbid v u some = (some.0, some.1, some.2, some.3, IsPrefix-front v u some.1 some.4)
 
 match_by :
@@ -113,13 +117,16 @@ match_found forbid [] = record {
   begins = λ some. absurd (some refl);
   longest = λ v end begun. omega (arith, ap (λ (v : List ℕ). length v) (suffix_of_nothing v end));
 }
-match_found forbid (symbol ∷ w) = match_by forbid symbol w (begins_forbidden forbid (symbol ∷ w)) refl (match_found forbid w)
+match_found forbid (symbol ∷ w) =
+    match_by forbid symbol w (begins_forbidden forbid (symbol ∷ w)) refl (match_found forbid w)
 
 longest_by :
     (forbid : List (List ℕ)) (w matched next v : List ℕ) (symbol : ℕ) → IsLongestMatch forbid w matched
-    → IsLongestMatch forbid (matched ++ symbol ∷ []) next → IsSuffix v (w ++ symbol ∷ []) → BeginsForbidden forbid v
+    → IsLongestMatch forbid (matched ++ symbol ∷ []) next → IsSuffix v (w ++ symbol ∷ [])
+    → BeginsForbidden forbid v
     → (v ≡ []) ⊎ ((front : List ℕ) × (last : ℕ) × (v ≡ front ++ last ∷ [])) → length v ≤ length next
-longest_by forbid w matched next v symbol before now end begun (inl none) = omega (arith, ap (λ (v : List ℕ). length v) none)
+longest_by forbid w matched next v symbol before now end begun (inl none) =
+    omega (arith, ap (λ (v : List ℕ). length v) none)
 longest_by forbid w matched next v symbol before now end begun (inr some) =
     let front = some.0 in
     let split = suffix_less front w some.1 symbol (subst (λ v. IsSuffix v (w ++ symbol ∷ [])) some.2 end) in

@@ -12,7 +12,7 @@ use Rattle.constraint_spec.specs.RawState.{RawState, IsLongestMatch, IsRawStateO
 use Rattle.constraint_spec.specs.RawStateOf.{first_raw_state, next_raw_state, longest_match, raw_state, is_led}
 use Rattle.constraint_spec.proofs.Suffixes.{IsSuffix-nil, IsSuffix-nested, IsSuffix-whole, IsSuffix-length, suffix_of_nothing}
 use Rattle.constraint_spec.proofs.RawParts.{after_one_more, zeros_more, match_found, match_more}
-use Rattle.constraint_spec.proofs.Lists.{filter_ascends, range_ascends, ascending_same}
+use Rattle.symbol_base.proofs.AscendingNumbers.{filter_ascends, range_ascends, ascending_same}
 use Rattle.constraint_spec.proofs.Ends.{ends_first, ends_more}
 
 -- that of the empty word
@@ -72,13 +72,16 @@ empty_or_not [] = inl refl
 empty_or_not (s ∷ v) = inr (λ none. cc)
 
 -- a longest match is no longer than another
-match_within : (forbid : List (List ℕ)) (w u v : List ℕ) → IsLongestMatch forbid w u → IsLongestMatch forbid w v → length u ≤ length v
+match_within :
+    (forbid : List (List ℕ)) (w u v : List ℕ) → IsLongestMatch forbid w u → IsLongestMatch forbid w v
+    → length u ≤ length v
 match_within forbid w u v first second = elim (empty_or_not u) [
   | inl none ↦ omega (arith, ap (λ (u : List ℕ). length u) none)
   | inr some ↦ second.longest u first.suffix (first.begins some)
 ]
 
-match_same : (forbid : List (List ℕ)) (w u v : List ℕ) → IsLongestMatch forbid w u → IsLongestMatch forbid w v → u ≡ v
+match_same :
+    (forbid : List (List ℕ)) (w u v : List ℕ) → IsLongestMatch forbid w u → IsLongestMatch forbid w v → u ≡ v
 match_same forbid w u v first second =
     let up = match_within forbid w u v first second in
     let down = match_within forbid w v u second first in
@@ -93,7 +96,8 @@ raw_same a b one zeros matched ends =
     ∙ ap (λ x. record { after_one = b.after_one; zeros = b.zeros; matched = b.matched; ends = x }) ends
 
 -- a word has one raw state
-pub one_raw_state : (c : ConstraintData) (w : List ℕ) (a b : RawState) → IsRawStateOf c w a → IsRawStateOf c w b → a ≡ b
+pub one_raw_state :
+    (c : ConstraintData) (w : List ℕ) (a b : RawState) → IsRawStateOf c w a → IsRawStateOf c w b → a ≡ b
 one_raw_state c w a b first second =
     raw_same a b (same_from_decides a.after_one b.after_one first.after_one second.after_one)
     (zeros_same (zeros_limit c) a.zeros b.zeros w first.zeros second.zeros)

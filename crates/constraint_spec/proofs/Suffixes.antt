@@ -31,10 +31,12 @@ IsSuffix-length v w end = omega (arith, ap length end.joined ∙ length-append e
 suffix_by :
     (v : List ℕ) (symbol : ℕ) (w before : List ℕ) → symbol ∷ w ≡ before ++ v → (v ≡ symbol ∷ w) ⊎ IsSuffix v w
 suffix_by v symbol w [] joined = inl (sym joined)
-suffix_by v symbol w (first ∷ before) joined = let rest : w ≡ before ++ v = cc in inr (record { before = before; joined = rest })
+suffix_by v symbol w (first ∷ before) joined =
+    let rest : w ≡ before ++ v = cc in inr (record { before = before; joined = rest })
 
 -- a suffix is the whole word, or one of what follows its first symbol
-pub IsSuffix-cons_cases : (v : List ℕ) (symbol : ℕ) (w : List ℕ) → IsSuffix v (symbol ∷ w) → (v ≡ symbol ∷ w) ⊎ IsSuffix v w
+pub IsSuffix-cons_cases :
+    (v : List ℕ) (symbol : ℕ) (w : List ℕ) → IsSuffix v (symbol ∷ w) → (v ≡ symbol ∷ w) ⊎ IsSuffix v w
 IsSuffix-cons_cases v symbol w end = suffix_by v symbol w end.before end.joined
 
 nothing_by : (v before : List ℕ) → [] ≡ before ++ v → v ≡ []
@@ -106,11 +108,16 @@ factor_by v w before after symbol joined (inr some) =
 -- a part of a word with one more symbol ends it, or is a part of the word
 pub IsFactor-push_cases :
     (v w : List ℕ) (symbol : ℕ) → IsFactor v (w ++ symbol ∷ []) → IsSuffix v (w ++ symbol ∷ []) ⊎ IsFactor v w
-IsFactor-push_cases v w symbol part = factor_by v w part.before part.after symbol part.joined (last_of part.after)
+IsFactor-push_cases v w symbol part =
+    factor_by v w part.before part.after symbol part.joined (last_of part.after)
 
 -- a prefix of a prefix is a prefix
 pub IsPrefix-front : (v u w : List ℕ) → IsPrefix (v ++ u) w → IsPrefix v w
-IsPrefix-front v u w begins = record { after = u ++ begins.after; joined = begins.joined ∙ append_assoc v u begins.after }
+IsPrefix-front v u w begins = record {
+  after =
+      u ++ begins.after;
+  joined = begins.joined ∙ append_assoc v u begins.after;
+}
 
 -- a run of 0s has a 0 at its end
 pub zeros_push : (n : ℕ) → ◌++◌ {A = ℕ} (replicate n 0) (0 ∷ []) ≡ replicate (suc n) 0
@@ -131,10 +138,12 @@ no_one : (m n : ℕ) (before : List ℕ) → replicate m 0 ≡ before ++ (1 ∷ 
 no_one zero n [] joined = cc
 no_one (suc m) n [] joined = cc
 no_one zero n (x ∷ before) joined = cc
-no_one (suc m) n (x ∷ before) joined = let rest : replicate m 0 ≡ before ++ (1 ∷ replicate n 0) = cc in no_one m n before rest
+no_one (suc m) n (x ∷ before) joined =
+    let rest : replicate m 0 ≡ before ++ (1 ∷ replicate n 0) = cc in no_one m n before rest
 
 -- no more than n 0s end a word that ends with a 1 and n 0s
-pub zeros_behind_one : (m n : ℕ) (w : List ℕ) → IsSuffix (1 ∷ replicate n 0) w → IsSuffix (replicate m 0) w → m ≤ n
+pub zeros_behind_one :
+    (m n : ℕ) (w : List ℕ) → IsSuffix (1 ∷ replicate n 0) w → IsSuffix (replicate m 0) w → m ≤ n
 zeros_behind_one m n w one zeros = elim (cases_lt n m) [
   | inl more ↦ absurd (
       let inside = IsSuffix-nested (1 ∷ replicate n 0) (replicate m 0) w one zeros

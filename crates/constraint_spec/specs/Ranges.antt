@@ -1,5 +1,5 @@
 -- The ranges and orders that the parts of a constraint keep.
-use Rattle.std.specs.Prelude.{◌≡◌, ℕ, ◌<◌, ◌≤◌, ◌↔◌, ◌⊎◌, List, [], length, All, IfSome}
+use Rattle.std.specs.Prelude.{◌≡◌, ℕ, ◌<◌, ◌≤◌, ◌==◌, ◌&&◌, ◌||◌, nat_lt, Bool, ◌↔◌, ◌⊎◌, List, [], length, All, IfSome}
 use Rattle.symbol_base.specs.Ascending.{IsAscending}
 use Rattle.symbol_base.specs.Word.{IsOver, IsBefore}
 use Rattle.constraint_spec.specs.declared.GraphEdge.{GraphEdge}
@@ -9,6 +9,10 @@ use Rattle.constraint_spec.specs.Constraint.{ConstraintData}
 abbrev pub IsEdgeBefore : GraphEdge → GraphEdge → Type 0
 IsEdgeBefore e f =
     (e.from < f.from) ⊎ ((e.from ≡ f.from) × ((e.label < f.label) ⊎ ((e.label ≡ f.label) × (e.to < f.to))))
+
+-- the test of that order
+abbrev pub edge_before : GraphEdge → GraphEdge → Bool
+edge_before e f = nat_lt e.from f.from || ((e.from == f.from) && (nat_lt e.label f.label || ((e.label == f.label) && nat_lt e.to f.to)))
 
 -- a forbidden word has 1 to 32 symbols of the alphabet
 abbrev pub IsForbiddable : ℕ → List ℕ → Type 0

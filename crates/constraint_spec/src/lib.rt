@@ -1,12 +1,12 @@
 //! What a word of a constraint is: the definitions that every crate above cites, and their laws.
 #![tactic(auto)]
 
-ghost use Rattle.std.specs.Prelude.{◌≡◌, ℕ, true, List, [], ◌∷◌, ◌++◌, ◌↔◌};
+ghost use Rattle.std.specs.Prelude.{◌≡◌, ℕ, true, List, [], ◌∷◌, ◌++◌, ◌↔◌, ◌⊎◌, IsTrue};
 ghost use Rattle.constraint_spec.specs.declared.GraphEdge.{GraphEdge};
 ghost use Rattle.constraint_spec.specs.Word.{IsFactor};
 ghost use Rattle.constraint_spec.specs.Walk.{LabelsWalk, PassesStates};
 ghost use Rattle.constraint_spec.specs.Constraint.{ConstraintData, IsWordOf};
-ghost use Rattle.constraint_spec.specs.Ranges.{IsConstraint};
+ghost use Rattle.constraint_spec.specs.Ranges.{IsConstraint, IsEdgeBefore, edge_before};
 ghost use Rattle.constraint_spec.specs.RawState.{RawState, IsRawStateOf, MayFollow};
 ghost use Rattle.constraint_spec.specs.RawStateOf.{raw_state, next_raw_state, may_follow};
 
@@ -17,6 +17,23 @@ pub struct GraphEdge {
     pub label: u8,
     pub to: u32,
 }
+
+impl GraphEdge {
+    /// The edge comes before the other: by state, then by label, then by target.
+    pub fn comes_before(self, other: GraphEdge) -> bool
+        ensures test { result ≡ edge_before self other }
+        ensures order { IsTrue result ↔ IsEdgeBefore self other }
+    {
+        self < other
+    }
+}
+
+/// The order of edges is strict, and of two edges that differ one comes before the other.
+pub fn edges_are_ordered()
+    ensures strict { (e : GraphEdge) → IsEdgeBefore e e → ⊥ }
+    ensures onward { (e f g : GraphEdge) → IsEdgeBefore e f → IsEdgeBefore f g → IsEdgeBefore e g }
+    ensures total { (e f : GraphEdge) → IsEdgeBefore e f ⊎ ((e ≡ f) ⊎ IsEdgeBefore f e) }
+{}
 
 /// A part of a word of a constraint is a word of it.
 pub fn factor_is_word()

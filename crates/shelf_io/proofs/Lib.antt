@@ -1,3 +1,4 @@
 pub mod EntriesLemmas
+pub mod PartsLemmas
 pub mod ReadsLemmas
 pub mod ShelfLemmas

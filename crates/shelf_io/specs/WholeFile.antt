@@ -4,7 +4,7 @@ use Rattle.std.specs.declared.alloc.Global.{Global}
 use Rattle.shelf_io.specs.declared.whole_files.ReadAllFault.{ReadAllFault}
 use Rattle.shelf_io.specs.declared.whole_files.ReadAllFault.TheVariants.{Failed, Missing, TooLong, NoMemory}
 use Rattle.shelf_io.specs.Faults.{Counted}
-use Rattle.shelf_io.specs.Shelf.{Files, appended}
+use Rattle.shelf_io.specs.Shelf.{Files, with_file, appended}
 
 -- what an answer says of the file: it is all of its bytes, there is no file, or there are more bytes than the limit
 abbrev pub IsWhole : ℕ → Result (Vec ℕ Global) ReadAllFault → Option (List ℕ) → Type 0
@@ -35,9 +35,19 @@ abbrev pub all_appended : List ℕ → List ℕ → Files → Files
 all_appended name [] files = files
 all_appended name (byte ∷ rest) files = appended name (byte ∷ rest) files
 
--- the files after all bytes were put, where they are told; after an error only the first k are there, and
--- where these are none the file may have been made all the same
+-- the files where not all bytes could be put: only the first k are there, and where these are none the file
+-- may have been made all the same
+abbrev pub IsPutInPart : List ℕ → List ℕ → Option Files → Option Files → Type 0
+IsPutInPart name bytes old new = (k : ℕ) × (k < length bytes)
+    × ((new ≡ option_map (all_appended name (take k bytes)) old) ⊎ (new ≡ option_map (appended name (take k bytes)) old))
+
+-- the files after all bytes were put, where they are told, and after an error only the first of them
 abbrev pub IsPutAll : {T E : Type 0} → List ℕ → List ℕ → Option Files → Option Files → Result T E → Type 0
 IsPutAll name bytes old new (Ok value) = new ≡ option_map (all_appended name bytes) old
-IsPutAll name bytes old new (Err error) = (k : ℕ) × (k < length bytes)
-    × ((new ≡ option_map (all_appended name (take k bytes)) old) ⊎ (new ≡ option_map (appended name (take k bytes)) old))
+IsPutAll name bytes old new (Err error) = IsPutInPart name bytes old new
+
+-- the files after one was made of these bytes, where they are told; after an error it is untouched or a front
+-- of the bytes, and no other file changed
+abbrev pub IsWritten : {T E : Type 0} → List ℕ → List ℕ → Option Files → Option Files → Result T E → Type 0
+IsWritten name bytes old new (Ok value) = new ≡ option_map (λ files. with_file files name bytes) old
+IsWritten name bytes old new (Err error) = (new ≡ old) ⊎ ((n : ℕ) × (new ≡ option_map (λ files. with_file files name (take n bytes)) old))

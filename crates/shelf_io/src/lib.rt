@@ -9,7 +9,9 @@ mod on_host;
 mod outside;
 mod whole_files;
 
-pub use changes::{put_behind_a_file, put_into_a_made_file};
+pub use changes::{
+    put_all_into_a_made_file, put_behind_a_file, put_in_two_parts, put_into_a_made_file,
+};
 pub use failing::FailingShelf;
 pub use in_memory::{MemoryShelf, MemorySink};
 pub use on_host::{HostShelf, HostSink};

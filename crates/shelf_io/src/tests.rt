@@ -92,6 +92,23 @@ fn whole_files_are_read_up_to_the_limit(rt: HostRuntime) -> Result<(), NoMemory>
     Ok(())
 }
 
+fn put_fails(shelf: &mut FailingShelf) -> bool {
+    shelf.put("file", b"01") == Err(Failed)
+}
+
+fn length_fails(shelf: &mut FailingShelf) -> bool {
+    shelf.length("file") == Err(Unread::Failed)
+}
+
+fn read_fails(shelf: &mut FailingShelf) -> bool {
+    let mut room = [0; 9];
+    shelf.read("file", 0, &mut room) == Err(Unread::Failed)
+}
+
+fn make_fails(shelf: &mut FailingShelf) -> bool {
+    shelf.make("file") == Err(Failed)
+}
+
 /// What four calls on a file answer where some fail by their number: whether each fails, and what is left of
 /// the file at the end.
 fn check_failing(
@@ -104,14 +121,10 @@ fn check_failing(
     let mut inner = MemoryShelf::new(alloc);
     inner.add("file", b"x")?;
     let mut shelf = FailingShelf::new(inner, Vec::from_slice(alloc, listed)?);
-    let mut room = [0; 9];
-    assert_eq!(rt; shelf.put("file", b"01") == Err(Failed), fails[0]);
-    assert_eq!(rt; shelf.length("file") == Err(Unread::Failed), fails[1]);
-    assert_eq!(rt;
-        shelf.read("file", 0, &mut room) == Err(Unread::Failed),
-        fails[2]
-    );
-    assert_eq!(rt; shelf.make("file") == Err(Failed), fails[3]);
+    assert_eq!(rt; put_fails(&mut shelf), fails[0]);
+    assert_eq!(rt; length_fails(&mut shelf), fails[1]);
+    assert_eq!(rt; read_fails(&mut shelf), fails[2]);
+    assert_eq!(rt; make_fails(&mut shelf), fails[3]);
     assert!(rt; holds(shelf.inner(), "file", left));
     Ok(())
 }
@@ -221,17 +234,28 @@ fn a_file_is_read_to_the_read_that_gives_nothing(rt: HostRuntime) -> Result<(), 
     Ok(())
 }
 
+/// Whether all bytes are put, three at a time at most.
+fn puts_all(shelf: &mut ShyShelf, name: &str, bytes: &[u8]) -> bool {
+    put_all(shelf, name, bytes).is_ok()
+}
+
 #[test]
 fn all_bytes_are_put_piece_by_piece(rt: HostRuntime) -> Result<(), NoMemory> {
     let alloc = rt.alloc();
     let mut shelf = ShyShelf::new(alloc, MemoryShelf::new(alloc), 5, 0)?;
-    assert_eq!(rt; put_all(&mut shelf, "none", b""), Ok(()));
+    assert!(rt; puts_all(&mut shelf, "none", b""));
     assert!(rt; shelf.inner.inner().file("none").is_none());
-    assert_eq!(rt; put_all(&mut shelf, "text", b"01011101"), Ok(()));
-    assert_eq!(rt; put_all(&mut shelf, "text", b"1"), Ok(()));
+    assert!(rt; puts_all(&mut shelf, "text", b"01011101"));
+    assert!(rt; puts_all(&mut shelf, "text", b"1"));
     assert!(rt; holds(shelf.inner.inner(), "text", b"010111011"));
+    Ok(())
+}
+
+#[test]
+fn a_put_that_fails_leaves_the_pieces_before_it(rt: HostRuntime) -> Result<(), NoMemory> {
+    let alloc = rt.alloc();
     let mut broken = ShyShelf::new(alloc, MemoryShelf::new(alloc), 2, 0)?;
-    assert_eq!(rt; put_all(&mut broken, "text", b"01011101"), Err(Failed));
+    assert!(rt; !puts_all(&mut broken, "text", b"01011101"));
     assert!(rt; holds(broken.inner.inner(), "text", b"010"));
     Ok(())
 }

@@ -1,4 +1,6 @@
+pub mod AscendingNumbers
 pub mod BitsLemmas
 pub mod BlockLemmas
 pub mod DecimalLemmas
 pub mod Walks
+pub mod WordOrder

@@ -28,7 +28,8 @@ walk-more step labels label here last there walk more =
 -- a walk by at least one label has a last step
 pub walk-last :
     {S L : Type 0} (step : S → L → S → Type 0) (labels : List L) (label : L) (here there : S)
-    → IsWalk step here (labels ++ label ∷ []) there → (last : S) × IsWalk step here labels last × step last label there
+    → IsWalk step here (labels ++ label ∷ []) there
+    → (last : S) × IsWalk step here labels last × step last label there
 walk-last {S = S} step labels label here there walk =
     let parts = walk-part step labels (label ∷ []) here there walk in
     let last : step parts.0 label there = subst (λ (s : S). step parts.0 label s) parts.2.2 parts.2.1 in

@@ -7,6 +7,7 @@ mod decimals;
 mod lists;
 mod memory;
 mod names;
+mod words;
 
 pub use bits::{bit_at, set_bit, take_word};
 pub use blocks::{Block, block_of_its_symbols, blocks_in_word_order, symbols_of_a_block};
@@ -14,6 +15,7 @@ pub use decimals::{decimal, decimal_texts};
 pub use lists::{ByteList, WordList};
 pub use memory::NoMemory;
 pub use names::{CodeName, CoverName, Name, SplitName};
+pub use words::{comes_before, words_are_ordered};
 
 #[cfg(test)]
 mod tests;

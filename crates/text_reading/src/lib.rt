@@ -36,7 +36,8 @@ fn digit_run(bytes: &[u8]) -> usize
         .count()
 }
 
-fn number_in(text: &[u8]) -> Option<u64>
+/// The number that the whole text spells, in 1 to 18 digits with no leading 0 but in `0` itself.
+pub fn number_in(text: &[u8]) -> Option<u64>
     ensures { result ≡ number_in text.now }
 {
     decimal(text)

@@ -8,10 +8,16 @@ use Rattle.command_steps.specs.declared.status.CodeFault.TheVariants.{BadCode}
 use Rattle.command_steps.specs.declared.status.Status.TheVariants.{CodeRefused}
 use Rattle.command_steps.specs.Step.{IsSingle}
 use Rattle.command_steps.proofs.StepLaws.{gives_is_single, needs_is_single, reads_is_single, input_is_single, then_is_single}
-use Rattle.workbench.specs.Forms.{Form, encode}
-use Rattle.workbench.specs.Inputs.{CodeOf, CodeAt}
-use Rattle.workbench.specs.Encode.{TextOf, encode_row}
+use Rattle.workbench.specs.Forms.{Form, check, explain, encode}
+use Rattle.workbench.specs.Inputs.{ConstraintAt, CodeOf, CodeAt}
+use Rattle.workbench.specs.CheckedCodes.{CheckedAt}
+use Rattle.workbench.specs.Check.{check_row}
+use Rattle.workbench.specs.Explain.{explain_row}
+use Rattle.workbench.specs.Encode.{encode_row}
 use Rattle.workbench.specs.Rows.{row_of}
+use Rattle.workbench.proofs.CheckLaws.{checked_is_single}
+use Rattle.workbench.proofs.ConstraintLaws.{constraint_is_single}
+use Rattle.workbench.proofs.CoverLaws.{cover_is_single}
 
 code_is_single : (bytes : List ℕ) → IsSingle (CodeOf bytes)
 code_is_single bytes = reads_is_single (IsCodeText bytes) (IsWrongLine bytes) (λ line. CodeRefused (BadCode line)) (one_code bytes) (one_wrong_line bytes) (no_wrong_line bytes)
@@ -20,9 +26,27 @@ code_file_is_single : (name : List ℕ) → IsSingle (CodeAt name)
 unfolding CodeAt
 code_file_is_single name = search (then_is_single, input_is_single, code_is_single)
 
+constraint_file_is_single : (name : List ℕ) → IsSingle (ConstraintAt name)
+unfolding ConstraintAt
+constraint_file_is_single name = search (then_is_single, input_is_single, constraint_is_single)
+
+checked_file_is_single : (name : List ℕ) → IsSingle (CheckedAt name)
+unfolding CheckedAt
+checked_file_is_single name = search (then_is_single, code_file_is_single, checked_is_single)
+
+check_is_single : (code : List ℕ) → IsSingle (check_row code)
+unfolding check_row
+check_is_single code = search (then_is_single, checked_file_is_single, gives_is_single)
+
+explain_is_single : (constraint : List ℕ) → IsSingle (explain_row constraint)
+unfolding explain_row
+explain_is_single constraint = search (then_is_single, constraint_file_is_single, cover_is_single, gives_is_single)
+
 encode_is_single : (code source : List ℕ) → IsSingle (encode_row code source)
-unfolding encode_row TextOf
-encode_is_single code source = search (then_is_single, input_is_single, code_file_is_single, needs_is_single, gives_is_single) depth 12
+unfolding encode_row
+encode_is_single code source = search (then_is_single, input_is_single, checked_file_is_single, needs_is_single, gives_is_single) depth 12
 
 pub row_is_single : (form : Form) → IsSingle (row_of form)
+row_is_single (check code) = check_is_single code
+row_is_single (explain constraint p q bound) = explain_is_single constraint
 row_is_single (encode code source text) = encode_is_single code source

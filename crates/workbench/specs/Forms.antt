@@ -1,18 +1,40 @@
--- The forms of the command line: a constructor for each command, with its names.
-use Rattle.std.specs.Prelude.{ℕ, List, [], ◌∷◌, Option, Some, None, codes, not, ◌&&◌, if◌then◌else◌}
+-- The forms of the command line: a constructor for each command, with its names and numbers.
+use Rattle.std.specs.Prelude.{ℕ, List, [], ◌∷◌, Option, Some, None, codes, nat_le, not, ◌&&◌, if◌then◌else◌}
 use Rattle.std.specs.Str.{bytes_eq}
+use Rattle.text_reading.specs.Reading.{◌>>=◌, number_in}
 
 pub data Form : Type 0 where
+  check : (code : List ℕ) → Form
+  explain : (constraint : List ℕ) (p q bound : ℕ) → Form
   encode : (code source text : List ℕ) → Form
 
--- `encode CODE DATA TEXT`, where the text's name is none of the others
+-- the number that a word spells, where it is from least to most
+abbrev pub number_within : ℕ → ℕ → List ℕ → Option ℕ
+number_within least most word = do
+  n ← number_in word
+  if nat_le least n && nat_le n most then Some n else None
+
+-- `explain CONSTRAINT P Q BOUND`: P data bits for Q symbols, and weights up to BOUND
+unfoldable pub explain_form : List ℕ → List ℕ → List ℕ → List ℕ → Option Form
+explain_form constraint p q bound = do
+  p ← number_within 1 8 p
+  q ← number_within p 20 q
+  bound ← number_within 1 64 bound
+  Some (explain constraint p q bound)
+
+-- `check CODE`; `encode CODE DATA TEXT`, where the text's name is none of the others; and `explain`
 abbrev pub form_of : List (List ℕ) → Option Form
+form_of (command ∷ code ∷ []) = if bytes_eq command (codes "check") then Some (check code) else None
 form_of (command ∷ code ∷ source ∷ text ∷ []) =
     if bytes_eq command (codes "encode") && not (bytes_eq text code) && not (bytes_eq text source)
     then Some (encode code source text)
     else None
+form_of (command ∷ constraint ∷ p ∷ q ∷ bound ∷ []) =
+    if bytes_eq command (codes "explain") then explain_form constraint p q bound else None
 form_of words = None
 
--- the name of the file that the command writes
+-- the name of the file that the command writes; the empty name where it writes none
 abbrev pub output_of : Form → List ℕ
+output_of (check code) = []
+output_of (explain constraint p q bound) = []
 output_of (encode code source text) = text

@@ -10,3 +10,6 @@ data_limit = 2 ^ 26
 -- the line feed counts
 abbrev pub text_limit : ℕ
 text_limit = 2 ^ 29
+
+abbrev pub constraint_limit : ℕ
+constraint_limit = 2 ^ 20

@@ -1,7 +1,9 @@
 -- What the program's values stand for.
 use Rattle.workbench.specs.declared.command.Command.{Command}
-use Rattle.workbench.specs.declared.command.Command.TheVariants.{Encode}
-use Rattle.workbench.specs.Forms.{Form, encode}
+use Rattle.workbench.specs.declared.command.Command.TheVariants.{Check, Explain, Encode}
+use Rattle.workbench.specs.Forms.{Form, check, explain, encode}
 
 abbrev pub form_seen : Command → Form
+form_seen (Check code) = check code.now
+form_seen (Explain constraint p q bound) = explain constraint.now p q bound
 form_seen (Encode code source text) = encode code.now source.now text.now

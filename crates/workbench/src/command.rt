@@ -1,23 +1,18 @@
 ghost use Rattle.std.specs.Prelude.{◌≡◌, map, string_bytes, option_map};
-ghost use Rattle.workbench.specs.Forms.{form_of, output_of};
+ghost use Rattle.workbench.specs.Forms.{number_within, explain_form, form_of};
 ghost use Rattle.workbench.specs.Views.{form_seen};
 
-/// What the words ask for: a form of the command line, with its names.
+use text_reading::number_in;
+
+/// What the words ask for: a form of the command line, with its names and numbers.
 #[derive(Clone, Copy)]
 pub enum Command<'a> {
+    /// The code file.
+    Check(&'a str),
+    /// The constraint file; p data bits for q symbols, and the greatest weight that is tried.
+    Explain(&'a str, u64, u64, u64),
     /// The code file, the data file and the text file.
     Encode(&'a str, &'a str, &'a str),
-}
-
-impl<'a> Command<'a> {
-    /// The name of the file that the command writes.
-    pub fn output(&self) -> &'a str
-        ensures { result.now ≡ output_of (form_seen self.now) }
-    {
-        match self {
-            Command::Encode(_, _, text) => text,
-        }
-    }
 }
 
 /// The command whose form the words are.
@@ -25,12 +20,38 @@ pub fn command_of(words: &[String]) -> Option<Command<'_>>
     ensures { option_map form_seen result ≡ form_of (map string_bytes words.now) }
 {
     match words {
+        [command, code] if command.as_str() == "check" => Some(Command::Check(code.as_str())),
         [command, code, source, text]
             if command.as_str() == "encode"
                 && text.as_str() != code.as_str()
                 && text.as_str() != source.as_str() => {
             Some(Command::Encode(code.as_str(), source.as_str(), text.as_str()))
         }
+        [command, constraint, p, q, bound] if command.as_str() == "explain" => {
+            explain_command(constraint.as_str(), p.as_str(), q.as_str(), bound.as_str())
+        }
         _ => None,
+    }
+}
+
+#[tactic(auto, unfolding(crate::specs::Forms::explain_form))]
+fn explain_command<'a>(constraint: &'a str, p: &str, q: &str, bound: &str) -> Option<Command<'a>>
+    ensures { option_map form_seen result ≡ explain_form constraint.now p.now q.now bound.now }
+{
+    let p = number_within(1, 8, p)?;
+    let q = number_within(p, 20, q)?;
+    let bound = number_within(1, 64, bound)?;
+    Some(Command::Explain(constraint, p, q, bound))
+}
+
+/// The number that a word spells, where it is from `least` to `most`.
+fn number_within(least: u64, most: u64, word: &str) -> Option<u64>
+    ensures { result ≡ number_within least most word.now }
+{
+    let number = number_in(word.as_bytes())?;
+    if least <= number && number <= most {
+        Some(number)
+    } else {
+        None
     }
 }

@@ -2,14 +2,18 @@
 #![tactic(auto)]
 
 mod arguments;
+mod check;
 mod code_file;
 mod command;
+mod constraint_file;
 mod encode;
-mod plain_text;
+mod explain;
 #[cfg(test)]
 mod tests;
 mod top;
 
 pub use arguments::{end_with, run_arguments};
-pub use command_steps::{CodeFault, Status, status_line};
+pub use code_spec::Walk;
+pub use command_steps::{CodeFault, Limit, Status, status_line};
+pub use constraint_file_spec::{ConstraintFault, Key};
 pub use top::run;

@@ -1,10 +1,11 @@
 ghost use Rattle.std.specs.Prelude.{◌≡◌, ◌≤◌};
 
-use crate::{CodeFault, Status, run, run_arguments, status_line};
+use crate::{CodeFault, ConstraintFault, Key, Status, Walk, run, run_arguments, status_line};
 use shelf_io::{FailingShelf, MemoryShelf, MemorySink, Shelf};
 use std::alloc::Global;
 use std::process::Abort;
 use std::test::Fail;
+use symbol_base::{ByteList, CodeName, Name, WordList};
 
 /// No two 0s in a row, three symbols for two bits, three states.
 const NO_TWO_ZEROS: &[u8] =
@@ -26,11 +27,27 @@ const FORBIDDEN_WORD: &[u8] =
 const BROKEN_BLOCK: &[u8] =
     b"modcode 1\nalphabet 2\nd 0\nk 1\nforbid 0\ngraph 0 0\nrate 2 3\nwindow 1 1\nstates 3\n0 0 001 1\n0 1 110 1\n0 2 011 0\n0 3 011 2\n1 0 111 0\n1 1 110 1\n1 2 101 0\n1 3 101 2\n2 0 101 0\n2 1 101 2\n2 2 111 0\n2 3 111 2\n";
 
+/// The same with 010 as the block of state 1 and word 1, which meets a 0 at the end of 010.
+const BLOCKS_THAT_MEET: &[u8] =
+    b"modcode 1\nalphabet 2\nd 0\nk 1\nforbid 0\ngraph 0 0\nrate 2 3\nwindow 1 1\nstates 3\n0 0 010 1\n0 1 110 1\n0 2 011 0\n0 3 011 2\n1 0 111 0\n1 1 010 1\n1 2 101 0\n1 3 101 2\n2 0 101 0\n2 1 101 2\n2 2 111 0\n2 3 111 2\n";
+
 /// MFM: one to three 0s between 1s, two symbols for a bit.
 const MFM: &[u8] =
     b"modcode 1\nalphabet 2\nd 1\nk 3\nforbid 0\ngraph 0 0\nrate 1 2\nwindow 2 0\nstates 2\n0 0 10 0\n0 1 01 1\n1 0 00 0\n1 1 01 1\n";
 
+/// The code of the constraint of all words: each bit is its own symbol.
+const IDENTITY: &[u8] =
+    b"modcode 1\nalphabet 2\nd 0\nk -\nforbid 0\ngraph 0 0\nrate 1 1\nwindow 0 0\nstates 1\n0 0 0 0\n0 1 1 0\n";
+
+/// The same with one block for both data words.
+const ONE_BLOCK_FOR_TWO_WORDS: &[u8] =
+    b"modcode 1\nalphabet 2\nd 0\nk -\nforbid 0\ngraph 0 0\nrate 1 1\nwindow 0 0\nstates 1\n0 0 0 0\n0 1 0 0\n";
+
+const CHECK: &[&str] = &["check", "code"];
+
 const ENCODE: &[&str] = &["encode", "code", "data", "text"];
+
+const EXPLAIN: &[&str] = &["explain", "constraint", "2", "3", "2"];
 
 fn words(alloc: Global, texts: &[&str]) -> Result<Vec<String>, Fail> {
     let mut words = Vec::new(alloc);
@@ -112,11 +129,12 @@ fn a_file_is_encoded(rt: HostRuntime) -> Result<(), Fail> {
 #[test]
 fn refused_files_leave_no_text(rt: HostRuntime) -> Result<(), Fail> {
     let alloc = rt.alloc();
+    let outside = WordList::copy(alloc, &[0])?;
     let table: [(&[u8], CodeFault); 4] = [
         (NO_LAST_LINE_FEED, CodeFault::BadCode(21)),
         (LEADING_ZERO, CodeFault::BadCode(11)),
         (b"", CodeFault::BadCode(1)),
-        (BROKEN_BLOCK, CodeFault::NotWord),
+        (BROKEN_BLOCK, CodeFault::OutOfConstraint(outside)),
     ];
     for (code, fault) in table {
         let mut shelf = two_files(alloc, code, b"\x1b")?;
@@ -129,6 +147,120 @@ fn refused_files_leave_no_text(rt: HostRuntime) -> Result<(), Fail> {
     refused(&rt, alloc, &mut shelf, ENCODE, Status::FileMissing(2))?;
     assert!(rt; shelf.file("text").is_none());
     Ok(())
+}
+
+/// Runs the words over a shelf with one file, and shows that they are done and print the text.
+fn printed(
+    rt: &impl Abort,
+    alloc: Global,
+    file: (&str, &[u8]),
+    texts: &[&str],
+    text: &[u8],
+) -> Result<(), Fail> {
+    let mut shelf = MemoryShelf::new(alloc);
+    shelf.add(file.0, file.1)?;
+    let mut out = MemorySink::new(alloc, Vec::new(alloc));
+    let words = words(alloc, texts)?;
+    let ended = run(alloc, words.as_slice(), &mut shelf, &mut out);
+    assert!(rt; ended == Status::Done);
+    assert!(rt; out.text() == text);
+    Ok(())
+}
+
+#[test]
+fn a_checked_code_is_told_by_its_sizes(rt: HostRuntime) -> Result<(), Fail> {
+    let table: [(&[u8], &[u8]); 4] = [
+        (NO_TWO_ZEROS, b"states 3\nrate 2 3\nwindow 1 1\nok\n"),
+        (FORBIDDEN_WORD, b"states 3\nrate 2 3\nwindow 1 1\nok\n"),
+        (MFM, b"states 2\nrate 1 2\nwindow 2 0\nok\n"),
+        (IDENTITY, b"states 1\nrate 1 1\nwindow 0 0\nok\n"),
+    ];
+    for (code, text) in table {
+        printed(&rt, rt.alloc(), ("code", code), CHECK, text)?;
+    }
+    Ok(())
+}
+
+#[test]
+fn a_code_that_is_not_right_is_refused_with_its_witness(rt: HostRuntime) -> Result<(), Fail> {
+    let alloc = rt.alloc();
+    let mut shelf = MemoryShelf::new(alloc);
+    refused(&rt, alloc, &mut shelf, CHECK, Status::FileMissing(1))?;
+    shelf.add("code", BLOCKS_THAT_MEET)?;
+    let words = WordList::copy(alloc, &[0, 1])?;
+    let status = Status::CodeRefused(CodeFault::OutOfConstraint(words));
+    refused(&rt, alloc, &mut shelf, CHECK, status)?;
+    shelf.add("code", ONE_BLOCK_FOR_TWO_WORDS)?;
+    let (first, second) = (one_word(alloc, 0)?, one_word(alloc, 1)?);
+    let status = Status::CodeRefused(CodeFault::Ambiguous(first, second));
+    refused(&rt, alloc, &mut shelf, CHECK, status)
+}
+
+/// The walk from state 0 with one data word.
+fn one_word(alloc: Global, word: u32) -> Result<Walk, Fail> {
+    Ok(Walk {
+        state: CodeName::at(0),
+        words: WordList::copy(alloc, &[word])?,
+    })
+}
+
+#[test]
+fn a_constraint_is_explained_by_its_cover(rt: HostRuntime) -> Result<(), Fail> {
+    let table: [(&[u8], &[u8]); 4] = [
+        (b"", b"cover 1\n0 0 0\n0 1 0\n"),
+        (b"d = 0\nk = 1\n", b"cover 2\n0 0 1\n0 1 0\n1 1 0\n"),
+        (
+            b"d = 1\nk = 3\n",
+            b"cover 5\n0 0 1\n0 1 2\n1 0 3\n1 1 2\n2 0 1\n3 0 4\n3 1 2\n4 1 2\n",
+        ),
+        (
+            b"alphabet = 2\nd = 0\nk = 3\nforbid = [\"11\"]\n[[edge]]\nfrom = \"A\"\nlabel = \"0\"\nto = \"A\"\n",
+            b"cover 4\n0 0 1\n1 0 2\n2 0 3\n",
+        ),
+    ];
+    for (file, text) in table {
+        printed(&rt, rt.alloc(), ("constraint", file), EXPLAIN, text)?;
+    }
+    Ok(())
+}
+
+#[test]
+fn a_refused_constraint_is_told(rt: HostRuntime) -> Result<(), Fail> {
+    let alloc = rt.alloc();
+    let key = ByteList::copy(alloc, b"x")?;
+    let table: [(&[u8], ConstraintFault); 6] = [
+        (b"d = 3\nk = 2", ConstraintFault::DAboveK),
+        (b"d = 3\nk = 2\nx = 1", ConstraintFault::UnknownKey(key)),
+        (b"d = \"3\"", ConstraintFault::WrongType(Key::D)),
+        (b"d = 101", ConstraintFault::OutOfRange(Key::D)),
+        (b"forbid = [\"0\", \"\"]", ConstraintFault::BadWord(1)),
+        (b"=", ConstraintFault::NotToml),
+    ];
+    let mut shelf = MemoryShelf::new(alloc);
+    refused(&rt, alloc, &mut shelf, EXPLAIN, Status::FileMissing(1))?;
+    for (file, fault) in table {
+        shelf.add("constraint", file)?;
+        let status = Status::ConstraintRefused(fault);
+        refused(&rt, alloc, &mut shelf, EXPLAIN, status)?;
+    }
+    Ok(())
+}
+
+#[test]
+fn a_constraint_file_of_one_byte_more_than_1_mib_is_too_long(rt: HostRuntime) -> Result<(), Fail> {
+    let alloc = rt.alloc();
+    let long = vec![in alloc; b' '; 1048577]?;
+    let mut shelf = MemoryShelf::new(alloc);
+    shelf.add("constraint", long.as_slice())?;
+    refused(
+        &rt,
+        alloc,
+        &mut shelf,
+        EXPLAIN,
+        Status::FileTooLong(1048576),
+    )?;
+    let blank = ("constraint", &long.as_slice()[1..]);
+    printed(&rt, alloc, blank, EXPLAIN, b"cover 1\n0 0 0\n0 1 0\n")
 }
 
 #[test]
@@ -151,8 +283,19 @@ fn a_code_file_of_one_byte_more_than_8_mib_is_too_long(rt: HostRuntime) -> Resul
 fn other_words_are_no_form(rt: HostRuntime) -> Result<(), Fail> {
     let alloc = rt.alloc();
     let mut shelf = two_files(alloc, NO_TWO_ZEROS, b"\x1b")?;
-    let table: [&[&str]; 6] = [
+    let table: [&[&str]; 17] = [
         &[],
+        &["check"],
+        &["check", "code", "text"],
+        &["explain", "code", "2", "3"],
+        &["explain", "code", "0", "3", "1"],
+        &["explain", "code", "9", "9", "1"],
+        &["explain", "code", "3", "2", "1"],
+        &["explain", "code", "8", "21", "1"],
+        &["explain", "code", "8", "20", "0"],
+        &["explain", "code", "8", "20", "65"],
+        &["explain", "code", "08", "20", "64"],
+        &["design", "code", "2", "3", "1"],
         &["encode", "code", "data"],
         &["encode", "code", "data", "text", "more"],
         &["decode", "code", "data", "text"],

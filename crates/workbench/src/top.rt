@@ -1,17 +1,20 @@
 ghost use Rattle.std.specs.Prelude.{◌≡◌, ◌↔◌, map, string_bytes, IfSome, None};
 ghost use Rattle.command_steps.specs.declared.status.Status.TheVariants as statuses;
-ghost use Rattle.command_steps.specs.Promise.{Follows, seen};
+ghost use Rattle.command_steps.specs.Promise.{seen};
 ghost use Rattle.command_steps.specs.Answer.{Shelved};
 ghost use Rattle.command_steps.specs.Printing.{said};
 ghost use Rattle.command_steps.specs.Ends.{Ends, IsExact, Completes, CountsShelf, CountsSink, text_left};
 ghost use Rattle.workbench.specs.Forms.{form_of, output_of};
 ghost use Rattle.workbench.specs.Rows.{row_of};
 ghost use Rattle.workbench.specs.Runs.{Runs};
+ghost use Rattle.workbench.specs.Channel.{KeepsConstraint};
 ghost use Rattle.workbench.specs.Views.{form_seen};
 
+use crate::check::check;
 use crate::command::{Command, command_of};
-use crate::encode::encode;
-use command_steps::{Reply, Status, deliver, print_all, print_line};
+use crate::encode::plan_text;
+use crate::explain::explain;
+use command_steps::{Status, deliver, print_all, print_line};
 use shelf_io::{Shelf, TextSink};
 use std::alloc::Global;
 
@@ -23,7 +26,7 @@ use std::alloc::Global;
 ///
 /// The file that is written is the last name's alone. After a fault of the shelf it may be a front of
 /// the text, or empty; after every other status but `Done` and `SinkFault` no file is changed.
-#[tactic(auto, using(command_steps::proofs::EndLaws::ends, crate::proofs::RowLaws::row_is_single))]
+#[tactic(auto, using(command_steps::proofs::EndLaws::ends, crate::proofs::RowLaws::row_is_single, crate::proofs::ChannelLaws::keeps_constraint))]
 pub fn run<F: Shelf, K: TextSink>(
     alloc: Global,
     words: &[String],
@@ -45,6 +48,10 @@ pub fn run<F: Shelf, K: TextSink>(
     ensures complete { IfSome (form_of (map string_bytes words.now)) (λ form. Completes (row_of form) (output_of form)
         (seen F.files F.faults shelf.old) (seen F.files F.faults shelf.new)
         (said K.written K.faults out.old) (said K.written K.faults out.new) result) }
+
+    // After `encode` was done, the text is made of a word of the constraint that the code file keeps.
+    ensures channel { IfSome (form_of (map string_bytes words.now)) (λ form.
+        KeepsConstraint form (F.files shelf.old) (F.files shelf.new) result) }
 
     // After a fault of the shelf its count rose, and after every other status it is what it was; after a fault of
     // the sink its count rose, and after `Done` it is what it was.
@@ -89,14 +96,18 @@ fn shelve<F: Shelf>(alloc: Global, shelf: &mut F, command: &Command<'_>) -> Resu
     ensures { Shelved (row_of (form_seen command.now)) (output_of (form_seen command.now))
         (seen F.files F.faults shelf.old) (seen F.files F.faults shelf.new) (text_left result) }
 {
-    let reply = answer(alloc, shelf, command)?;
-    deliver(shelf, command.output(), reply)
-}
-
-fn answer<F: Shelf>(alloc: Global, shelf: &mut F, command: &Command<'_>) -> Result<Reply, Status>
-    ensures { Follows (λ r. r) (row_of (form_seen command.now)) (seen F.files F.faults shelf.old) (seen F.files F.faults shelf.new) result }
-{
     match command {
-        Command::Encode(code, source, _) => encode(alloc, shelf, code, source),
+        Command::Check(code) => {
+            let reply = check(alloc, shelf, code)?;
+            deliver(shelf, "", reply)
+        }
+        Command::Explain(constraint, _, _, _) => {
+            let reply = explain(alloc, shelf, constraint)?;
+            deliver(shelf, "", reply)
+        }
+        Command::Encode(code, source, text) => {
+            let plan = plan_text(alloc, shelf, code, source)?;
+            plan.write(shelf, text)
+        }
     }
 }

@@ -1,9 +1,9 @@
 -- Reading a code file line by line.
-use Rattle.std.specs.Prelude.{ℕ, ◌+◌, ◌-◌, ◌*◌, ◌^◌, ◌==◌, ◌&&◌, ◌||◌, Bool, true, nat_lt, nat_le, List, [], ◌∷◌, length, take, drop, map, Option, Some, None, Result, Ok, Err, codes, if◌then◌else◌}
+use Rattle.std.specs.Prelude.{ℕ, ◌+◌, ◌-◌, ◌*◌, ◌^◌, ◌==◌, ◌&&◌, Bool, true, nat_le, List, [], ◌∷◌, length, take, drop, map, Option, Some, None, Result, Ok, Err, codes, if◌then◌else◌}
 use Rattle.std.specs.List.{prefix_len}
-use Rattle.std.specs.Ordering.{is_lt, nat_cmp}
-use Rattle.std.specs.Cmp.Lexicographic.{slice_cmp}
+use Rattle.symbol_base.specs.Word.{comes_before}
 use Rattle.constraint_spec.specs.declared.GraphEdge.{GraphEdge}
+use Rattle.constraint_spec.specs.Ranges.{edge_before}
 use Rattle.code_spec.specs.declared.CodeRow.{CodeRow}
 use Rattle.code_spec.specs.Code.{CodeData}
 use Rattle.text_reading.specs.Reading as option
@@ -50,10 +50,6 @@ row_from x = record { block = record { value = x.1.1.0 }; to = x.1.1.1 }
 unfoldable pub code_row_at : ℕ → ℕ → ℕ → ℕ → List ℕ → Option (CodeRow × List ℕ)
 code_row_at q states state word bytes = option.◌>>=◌ (row_numbers_at q states state word bytes) (λ x. Some (row_from x.0, x.1))
 
--- the first word comes before the second: the shorter one, and of two of one length the smaller at the first difference
-abbrev pub comes_before : List ℕ → List ℕ → Bool
-comes_before u v = nat_lt (length u) (length v) || ((length u == length v) && is_lt (slice_cmp nat_cmp u v))
-
 abbrev pub follows : Option (List ℕ) → List ℕ → Bool
 follows None w = true
 follows (Some before) w = comes_before before w
@@ -80,9 +76,6 @@ most_edges states = if states == 0 then 0 else 2048
 
 unfoldable pub graph_at : List ℕ → Option ((ℕ × ℕ) × List ℕ)
 graph_at = behind (codes "graph ") (both (field_at 32 0 256) (λ states. field_at 10 (least_edges states) (most_edges states)))
-
-abbrev pub edge_before : GraphEdge → GraphEdge → Bool
-edge_before e f = nat_lt e.from f.from || ((e.from == f.from) && (nat_lt e.label f.label || ((e.label == f.label) && nat_lt e.to f.to)))
 
 abbrev pub edge_follows : Option GraphEdge → GraphEdge → Bool
 edge_follows None e = true

@@ -1,0 +1,4 @@
+pub mod Digits
+pub mod ItemTables
+pub mod Rooms
+pub mod Tables

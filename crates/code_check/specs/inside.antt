@@ -1,0 +1,6 @@
+-- What private functions of this crate alone cite.
+pub mod ByBlock
+pub mod CoverMoves
+pub mod PairGraph
+pub mod ReadGraph
+pub mod Reads

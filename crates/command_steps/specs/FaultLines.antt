@@ -1,0 +1,42 @@
+-- The lines that say why a file or a constraint is refused, each with its line feed.
+use Rattle.std.specs.Prelude.{ℕ, List, [], ◌∷◌, ◌++◌, flat_map, codes}
+use Rattle.std.specs.Fmt.{decimal}
+use Rattle.code_spec.specs.declared.Walk.{Walk}
+use Rattle.constraint_file_spec.specs.Keys.{key_name}
+use Rattle.constraint_file_spec.specs.declared.fault.ConstraintFault.{ConstraintFault}
+use Rattle.constraint_file_spec.specs.declared.fault.ConstraintFault.TheVariants.{NotToml, UnknownKey, WrongType, OutOfRange, DAboveK, TooMany, BadWord, BadEdge, NoMemory}
+use Rattle.command_steps.specs.declared.status.CodeFault.{CodeFault}
+use Rattle.command_steps.specs.declared.status.CodeFault.TheVariants.{BadCode, OutOfConstraint, Ambiguous}
+use Rattle.command_steps.specs.declared.status.Limit.{Limit}
+use Rattle.command_steps.specs.declared.status.Limit.TheVariants.{RawStates, CoverStates}
+
+-- a line, and its line feed
+abbrev line : List ℕ → List ℕ
+line text = text ++ 10 ∷ []
+
+-- each number in decimal, behind a space
+abbrev pub behind_spaces : List ℕ → List ℕ
+behind_spaces numbers = flat_map (λ number. 32 ∷ decimal number) numbers
+
+-- the key of an unknown key stands there byte for byte
+abbrev pub line_of_constraint_fault : ConstraintFault → List ℕ
+line_of_constraint_fault NotToml = line (codes "constraint refused: not toml")
+line_of_constraint_fault (UnknownKey key) = line (codes "constraint refused: unknown key " ++ key)
+line_of_constraint_fault (WrongType key) = line (codes "constraint refused: wrong type " ++ key_name key)
+line_of_constraint_fault (OutOfRange key) = line (codes "constraint refused: out of range " ++ key_name key)
+line_of_constraint_fault DAboveK = line (codes "constraint refused: d above k")
+line_of_constraint_fault (TooMany key) = line (codes "constraint refused: too many " ++ key_name key)
+line_of_constraint_fault (BadWord at) = line (codes "constraint refused: bad word " ++ decimal at)
+line_of_constraint_fault (BadEdge at) = line (codes "constraint refused: bad edge " ++ decimal at)
+line_of_constraint_fault NoMemory = line (codes "out of memory")
+
+abbrev pub line_of_limit : Limit → List ℕ
+line_of_limit (RawStates count) = line (codes "too large: raw states " ++ decimal count)
+line_of_limit (CoverStates count) = line (codes "too large: cover states " ++ decimal count)
+
+-- a walk is told by its state and its data words
+abbrev pub line_of_code_fault : CodeFault → List ℕ
+line_of_code_fault (BadCode at) = line (codes "code refused: line " ++ decimal at)
+line_of_code_fault (OutOfConstraint words) = line (codes "code refused: out of constraint" ++ behind_spaces words)
+line_of_code_fault (Ambiguous first second) =
+    line (codes "code refused: ambiguous" ++ behind_spaces (first.state ∷ first.words) ++ codes " and" ++ behind_spaces (second.state ∷ second.words))

@@ -1,0 +1,5 @@
+pub mod WordOrder
+pub mod Unique
+pub mod Ranks
+pub mod Renumbered
+pub mod Searching

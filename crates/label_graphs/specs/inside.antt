@@ -1,0 +1,3 @@
+-- What private functions of this crate alone cite.
+pub mod Numbers
+pub mod Found

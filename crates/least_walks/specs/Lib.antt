@@ -1,0 +1,4 @@
+pub mod Graph
+pub mod LeastWalk
+pub mod UnlikeWalk
+pub mod inside

@@ -1,0 +1,58 @@
+-- From which nodes walks of each length begin, with unlike words at the place that is counted from the end.
+use Rattle.std.specs.Prelude.{◌≡◌, ℕ, ◌<◌, ◌⊎◌, List, [], ◌∷◌, length, map, get_or, Bool, true, false, Vec}
+use Rattle.std.specs.Global.{Global}
+use Rattle.least_walks.specs.declared.Arc.{Arc}
+use Rattle.least_walks.specs.Graph.{Graph, no_arc}
+use Rattle.symbol_base.specs.Word.{IsSmallerAtFirst}
+use Rattle.least_walks.specs.UnlikeWalk.{HasUnlikeWords}
+
+-- the labels are those of a walk, and the one with so many labels behind it has unlike words
+abbrev pub IsUnlikeFromEnd : Graph → ℕ → ℕ → ℕ → List ℕ → Type 0
+IsUnlikeFromEnd g words ahead v [] = Unit {0}
+IsUnlikeFromEnd g words ahead v (label ∷ labels) =
+    (u : ℕ) × g.arc v label u × (length labels ≡ ahead → HasUnlikeWords words label) × IsUnlikeFromEnd g words ahead u labels
+
+abbrev pub HasUnlikeWalk : Graph → ℕ → ℕ → ℕ → ℕ → Type 0
+HasUnlikeWalk g words ahead len v = (labels : List ℕ) × (length labels ≡ len) × IsUnlikeFromEnd g words ahead v labels
+
+-- of all such walks of this length from this node the least: the smaller at the first difference
+pub record IsLeastFrom (g : Graph) (words ahead len v : ℕ) (labels : List ℕ) : Type 0 where
+  pub count : length labels ≡ len
+  pub walk : IsUnlikeFromEnd g words ahead v labels
+  pub least : (other : List ℕ) → length other ≡ len → IsUnlikeFromEnd g words ahead v other
+      → (labels ≡ other) ⊎ IsSmallerAtFirst labels other
+
+-- and no node before this one has such a walk of this length
+pub record IsLeastOfAll (g : Graph) (words ahead len v : ℕ) (labels : List ℕ) : Type 0 where
+  pub inside : v < g.nodes
+  pub here : IsLeastFrom g words ahead len v labels
+  pub first : (u : ℕ) → u < v → HasUnlikeWalk g words ahead len u → ⊥
+
+-- of each of the first n nodes whether it has a walk of this length
+pub record IsLayerTo (g : Graph) (words ahead len n : ℕ) (layer : List Bool) : Type 0 where
+  pub count : length layer ≡ n
+  pub has : (v : ℕ) → v < n → get_or layer v false ≡ true → HasUnlikeWalk g words ahead len v
+  pub all : (v : ℕ) → v < n → HasUnlikeWalk g words ahead len v → get_or layer v false ≡ true
+
+abbrev pub IsLayer : Graph → ℕ → ℕ → ℕ → List Bool → Type 0
+IsLayer g words ahead len layer = IsLayerTo g words ahead len g.nodes layer
+
+abbrev pub layer_of : List (Vec Bool Global) → ℕ → List Bool
+layer_of layers k = get_or (map (λ layer. layer.items) layers) k []
+
+-- the layers of the lengths below n
+pub record AreLayers (g : Graph) (words ahead n : ℕ) (layers : List (Vec Bool Global)) : Type 0 where
+  pub count : length layers ≡ n
+  pub each : (k : ℕ) → k < n → IsLayer g words ahead k (layer_of layers k)
+
+-- a walk can begin with this arc, with so many arcs behind it
+pub record IsUsable (words ahead left : ℕ) (layer : List Bool) (arc : Arc) : Type 0 where
+  pub goes_on : get_or layer arc.to false ≡ true
+  pub unlike : left ≡ ahead → HasUnlikeWords words arc.label
+
+pub record IsFirstUsable (words ahead left : ℕ) (layer : List Bool) (arcs : List Arc) (arc : Arc) : Type 0 where
+  pub place : ℕ
+  pub below : place < length arcs
+  pub is : get_or arcs place no_arc ≡ arc
+  pub usable : IsUsable words ahead left layer arc
+  pub first : (m : ℕ) → m < place → IsUsable words ahead left layer (get_or arcs m no_arc) → ⊥

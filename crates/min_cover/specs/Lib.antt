@@ -1,0 +1,3 @@
+pub mod StateCounts
+pub mod CoverFault
+pub mod inside
