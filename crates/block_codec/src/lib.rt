@@ -3,6 +3,7 @@
 
 mod bytes;
 mod counts;
+mod encoder;
 mod item_table;
 mod pieces;
 mod steps;
@@ -11,4 +12,8 @@ mod text_writer;
 mod words;
 
 pub use counts::{block_count, symbol_count};
+pub use encoder::Encoder;
 pub use text_writer::TextWriter;
+
+#[cfg(test)]
+mod tests;

@@ -3,6 +3,7 @@ use Rattle.std.proofs.Common.{◌≡◌, ℕ, zero, suc, ◌+◌, ◌*◌, ◌/�
 use Rattle.std.specs.Int.{bytes_high_first, byte_at}
 use Rattle.std.specs.Prelude.{bit_xor}
 use Rattle.std.proofs.Math.Nat.{div-div-eq-div-mul, pow-succ'}
+use lib.Pow.{mod-mod-pow}
 use Rattle.std.proofs.lemmas.Nat.{shl-shr, field_of, mod-pow-add, mod_low, xor_shr, xor_mod}
 use Rattle.gf256.specs.Field.{plus}
 use Rattle.rs_code.specs.Polynomial.{sum_of}
@@ -81,3 +82,40 @@ Elements-bytes (suc k) n = (byte_at-lt k n, Elements-bytes k n)
     byte_at-lt : (k n : ℕ) → byte_at k n < 256
     byte_at-lt zero n = omega arith
     byte_at-lt (suc k) n = omega arith
+
+-- a byte of the lowest bits is one of the number
+low_byte : (n j k : ℕ) → n % 2 ^ ((j + 8) + k) / 2 ^ k % 2 ^ 8 ≡ n / 2 ^ k % 2 ^ 8
+low_byte n j k = ap (λ m. m % 2 ^ 8) (field_of n (j + 8) k) ∙ mod-mod-pow (n / 2 ^ k) j 8
+
+-- a byte of the highest bits is one of the number
+high_byte : (n m : ℕ) → n / 2 ^ 64 / m % 256 ≡ n / (2 ^ 64 * m) % 256
+high_byte n m = ap (λ x. x % 256) (div-div-eq-div-mul n (2 ^ 64) m)
+
+front_half : (n : ℕ) (rest : List ℕ) → bytes_high_first 8 (n / 2 ^ 64) ++ rest
+    ≡ byte_at 15 n ∷ byte_at 14 n ∷ byte_at 13 n ∷ byte_at 12 n ∷ byte_at 11 n ∷ byte_at 10 n ∷ byte_at 9 n ∷ byte_at 8 n ∷ rest
+front_half n rest =
+    ap₂ (λ b bs. b ∷ bs) (high_byte n (256 ^ 7))
+    (ap₂ (λ b bs. b ∷ bs) (high_byte n (256 ^ 6))
+    (ap₂ (λ b bs. b ∷ bs) (high_byte n (256 ^ 5))
+    (ap₂ (λ b bs. b ∷ bs) (high_byte n (256 ^ 4))
+    (ap₂ (λ b bs. b ∷ bs) (high_byte n (256 ^ 3))
+    (ap₂ (λ b bs. b ∷ bs) (high_byte n (256 ^ 2))
+    (ap (λ b. b ∷ n / 2 ^ 64 % 256 ∷ rest) (high_byte n 256)))))))
+
+back_half : (n : ℕ) → bytes_high_first 8 (n % 2 ^ 64) ≡ bytes_high_first 8 n
+back_half n =
+    ap₂ (λ b bs. b ∷ bs) (low_byte n 0 56)
+    (ap₂ (λ b bs. b ∷ bs) (low_byte n 8 48)
+    (ap₂ (λ b bs. b ∷ bs) (low_byte n 16 40)
+    (ap₂ (λ b bs. b ∷ bs) (low_byte n 24 32)
+    (ap₂ (λ b bs. b ∷ bs) (low_byte n 32 24)
+    (ap₂ (λ b bs. b ∷ bs) (low_byte n 40 16)
+    (ap₂ (λ b bs. b ∷ bs) (low_byte n 48 8)
+    (ap (λ b. b ∷ []) (mod-mod-pow n 56 8))))))))
+
+-- sixteen bytes are those of the highest bits and those of the lowest
+pub two_halves : (n : ℕ) → bytes_high_first 8 (n / 2 ^ 64) ++ bytes_high_first 8 (n % 2 ^ 64) ≡ bytes_high_first 16 n
+two_halves n = front_half n (bytes_high_first 8 (n % 2 ^ 64)) ∙ ap (λ bs. bytes_front n ++ bs) (back_half n)
+  where
+    bytes_front : ℕ → List ℕ
+    bytes_front n = byte_at 15 n ∷ byte_at 14 n ∷ byte_at 13 n ∷ byte_at 12 n ∷ byte_at 11 n ∷ byte_at 10 n ∷ byte_at 9 n ∷ byte_at 8 n ∷ []

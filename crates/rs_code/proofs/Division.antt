@@ -285,22 +285,23 @@ reduced_list to from at last top bottom new scale inverted k m sum scale_is inve
     (values-take m bottom)
 
 -- the coefficients past the leading one add nothing
-pub reduced_coefficients : (rest here : Remainder) (new : List Gf) (scale inverted : ℕ) → CanDivide rest here → 48 ≤ length rest.coefficients
-    → values new ≡ sum_of (values rest.coefficients) (scaled scale (shifted (rest.length - here.length) (values (take 32 here.coefficients))))
+pub reduced_coefficients : (rest here : Remainder) (new : List Gf) (scale inverted lanes : ℕ) → CanDivide rest here → 48 ≤ length rest.coefficients
+    → here.length ≤ lanes → lanes ≤ 32
+    → values new ≡ sum_of (values rest.coefficients) (scaled scale (shifted (rest.length - here.length) (values (take lanes here.coefficients))))
     → scale ≡ times (get_or rest.coefficients (rest.length - 1) (record { value = 0 })).value inverted
     → inverted ≡ inverse (get_or here.coefficients (here.length - 1) (record { value = 0 })).value
     → values new ≡ added (values rest.coefficients) (ratio rest here) (rest.length - here.length) (take here.length (values here.coefficients))
-reduced_coefficients rest here new scale inverted can room sum scale_is inverted_is =
+reduced_coefficients rest here new scale inverted lanes can room enough most sum scale_is inverted_is =
     let p : List ℕ = values rest.coefficients in
     let q : List ℕ = values here.coefficients in
     let k : ℕ = rest.length - here.length in
-    let degree : IsBelowDegree 32 q = λ i h. can.here_length.degree i (omega (arith, h, can.short)) in
-    reduced_list rest.coefficients here.coefficients (rest.length - 1) (here.length - 1) rest.coefficients here.coefficients new scale inverted k 32
+    let degree : IsBelowDegree lanes q = λ i h. can.here_length.degree i (omega (arith, h, enough)) in
+    reduced_list rest.coefficients here.coefficients (rest.length - 1) (here.length - 1) rest.coefficients here.coefficients new scale inverted k lanes
     sum scale_is inverted_is
-    ∙ sym (added_front p (take 32 q) (ratio rest here) k here.length
-    (omega (arith, room, can.room, length-take-under 32 q, length-values rest.coefficients))
-    (IsBelowDegree-take 32 here.length q degree can.here_length.degree))
-    ∙ ap (added p (ratio rest here) k) (take-take here.length 32 q can.short)
+    ∙ sym (added_front p (take lanes q) (ratio rest here) k here.length
+    (omega (arith, room, can.room, most, length-take-under lanes q, length-values rest.coefficients))
+    (IsBelowDegree-take lanes here.length q degree can.here_length.degree))
+    ∙ ap (added p (ratio rest here) k) (take-take here.length lanes q enough)
 
 pub reduced_degree : (rest here : Remainder) (new : List ℕ) → CanDivide rest here → here.length ≤ rest.length
     → new ≡ added (values rest.coefficients) (ratio rest here) (rest.length - here.length) (take here.length (values here.coefficients))

@@ -1,7 +1,7 @@
 //! Encoding and correction of many words with the same number of check symbols, by tables.
 
-ghost use Rattle.std.specs.Prelude.{◌≡◌, ℕ, ◌+◌, ◌*◌, ◌<◌, ◌≤◌, ◌↔◌, List, ◌++◌, drop, length, replicate, take, All, IsTrue, IfOk, IsOk, OnErr, OnOk, ◌%◌, ◌/◌, [], slice_index, slice_index_or};
-ghost use Rattle.std.specs.Int.{w128, to_be_bytes};
+ghost use Rattle.std.specs.Prelude.{◌≡◌, ℕ, ◌+◌, ◌*◌, ◌<◌, ◌≤◌, ◌↔◌, List, ◌++◌, drop, length, replicate, take, All, IsTrue, IfOk, IsOk, OnErr, OnOk, ◌%◌, ◌/◌, ◌^◌, [], slice_index, slice_index_or};
+ghost use Rattle.std.specs.Int.{w64, w128, to_be_bytes};
 ghost use Rattle.gf256.specs.Field.{IsElement};
 ghost use Rattle.gf256.specs.Linear.{scaled, values};
 ghost use Rattle.rs_code.specs.Polynomial.{IsBelowDegree};
@@ -251,9 +251,36 @@ fn symbols_of(high: u128, low: u128) -> [u8; 32]
     ensures { result ≡ register high low }
 {
     let mut symbols = [0; 32];
-    symbols[..16].copy_from_slice(&high.to_be_bytes());
-    symbols[16..].copy_from_slice(&low.to_be_bytes());
+    symbols[..16].copy_from_slice(&sixteen_symbols(high));
+    symbols[16..].copy_from_slice(&sixteen_symbols(low));
     symbols
+}
+
+/// The symbols of a number, the first in the top byte.
+#[tactic(auto, using(crate::proofs::Bytes::two_halves))]
+fn sixteen_symbols(number: u128) -> [u8; 16]
+    ensures { result ≡ to_be_bytes w128 number }
+{
+    halves(number)
+}
+
+/// The symbols of a number, eight from its upper half and eight from its lower one.
+fn halves(number: u128) -> [u8; 16]
+    ensures { result ≡ to_be_bytes w64 (number / 2 ^ 64) ++ to_be_bytes w64 (number % 2 ^ 64) }
+{
+    let mut symbols = [0; 16];
+    symbols[..8].copy_from_slice(&eight_symbols((number >> 64) as u64));
+    symbols[8..].copy_from_slice(&eight_symbols((number % (1 << 64)) as u64));
+    symbols
+}
+
+/// The symbols of a number; a function of its own, for only a plain number of 64 bits is turned round by
+/// one instruction.
+#[inline(never)]
+fn eight_symbols(number: u64) -> [u8; 8]
+    ensures { result ≡ to_be_bytes w64 number }
+{
+    number.to_be_bytes()
 }
 
 /// Feeds symbols to a register of 16 symbols, which are enough where t is at most 8, two at a time.

@@ -112,14 +112,30 @@ fn reduce(rest: &mut Remainder, here: &Remainder)
     let shift = rest.length - here.length;
     let leading = here.coefficients[here.length - 1];
     let scale = rest.coefficients[rest.length - 1].mul(leading.inv());
-    add_shifted(
+    add_multiple(
         &mut rest.coefficients,
-        &here.coefficients[..32],
+        &here.coefficients,
+        here.length,
         scale,
         shift,
     );
     add_shifted(&mut rest.factor, &here.factor[..16], scale, shift);
     rest.length = length_of(&rest.coefficients, rest.length - 1);
+}
+
+/// Adds a multiple of a polynomial with so many coefficients, times the power x^shift: 16 or 32 of them,
+/// both of which are whole numbers of lanes.
+fn add_multiple(to: &mut [Gf; 48], from: &[Gf; 48], count: usize, scale: Gf, shift: usize)
+    requires few { count ≤ 32 }
+    requires room { shift ≤ 16 }
+    ensures { (lanes : ℕ) × (count ≤ lanes) × (lanes ≤ 32)
+        × (values to.new ≡ sum_of (values to.old) (scaled scale.value (shifted shift (values (take lanes from.now))))) }
+{
+    if count <= 16 {
+        add_shifted(to, &from[..16], scale, shift);
+    } else {
+        add_shifted(to, &from[..32], scale, shift);
+    }
 }
 
 /// Adds a multiple of another polynomial, times the power x^shift.

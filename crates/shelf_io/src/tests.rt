@@ -92,20 +92,20 @@ fn whole_files_are_read_up_to_the_limit(rt: HostRuntime) -> Result<(), NoMemory>
     Ok(())
 }
 
-fn put_fails(shelf: &mut FailingShelf) -> bool {
+fn put_fails(shelf: &mut impl Shelf) -> bool {
     shelf.put("file", b"01") == Err(Failed)
 }
 
-fn length_fails(shelf: &mut FailingShelf) -> bool {
+fn length_fails(shelf: &mut impl Shelf) -> bool {
     shelf.length("file") == Err(Unread::Failed)
 }
 
-fn read_fails(shelf: &mut FailingShelf) -> bool {
+fn read_fails(shelf: &mut impl Shelf) -> bool {
     let mut room = [0; 9];
     shelf.read("file", 0, &mut room) == Err(Unread::Failed)
 }
 
-fn make_fails(shelf: &mut FailingShelf) -> bool {
+fn make_fails(shelf: &mut impl Shelf) -> bool {
     shelf.make("file") == Err(Failed)
 }
 
@@ -149,31 +149,29 @@ fn listed_calls_fail_and_no_others(rt: HostRuntime) -> Result<(), NoMemory> {
 /// A shelf that tells nothing, gives one byte at a time, takes at most three of a piece, and has no file
 /// after some reads.
 #[derive(Drop)]
-struct ShyShelf {
-    inner: FailingShelf,
+struct ShyShelf<S: Shelf> {
+    inner: S,
     reads: u64,
     lasting: u64,
 }
 
-impl ShyShelf {
-    fn new(
-        alloc: Global,
-        inner: MemoryShelf,
-        failing: u64,
-        lasting: u64,
-    ) -> Result<ShyShelf, NoMemory> {
-        Ok(ShyShelf {
-            inner: FailingShelf::new(inner, Vec::from_slice(alloc, &[failing])?),
-            reads: 0,
-            lasting,
-        })
-    }
+fn shy_shelf(
+    alloc: Global,
+    inner: MemoryShelf,
+    failing: u64,
+    lasting: u64,
+) -> Result<ShyShelf<FailingShelf>, NoMemory> {
+    Ok(ShyShelf {
+        inner: FailingShelf::new(inner, Vec::from_slice(alloc, &[failing])?),
+        reads: 0,
+        lasting,
+    })
 }
 
-impl Shelf for ShyShelf {
+impl<S: Shelf> Shelf for ShyShelf<S> {
     ghost files = { λ _. None };
 
-    ghost faults = { λ shelf. shelf.inner.faults };
+    ghost faults = { λ shelf. S.faults shelf.inner };
 
     fn length(&mut self, name: &str) -> Result<u64, Unread> {
         self.inner.length(name)
@@ -200,6 +198,10 @@ impl Shelf for ShyShelf {
     }
 }
 
+fn read_three(alloc: Global, shelf: &mut impl Shelf) -> Result<Vec<u8>, ReadAllFault> {
+    read_all(alloc, shelf, "file", 3)
+}
+
 /// What reading three bytes one at a time answers, and how many reads it makes, where one read fails and the
 /// file lasts for some.
 fn check_reads(
@@ -210,8 +212,8 @@ fn check_reads(
     fault: Option<ReadAllFault>,
     reads: u64,
 ) -> Result<(), NoMemory> {
-    let mut shelf = ShyShelf::new(alloc, shelf_with(alloc, 3)?, failing, lasting)?;
-    match read_all(alloc, &mut shelf, "file", 3) {
+    let mut shelf = shy_shelf(alloc, shelf_with(alloc, 3)?, failing, lasting)?;
+    match read_three(alloc, &mut shelf) {
         Ok(bytes) => {
             assert!(rt; fault.is_none());
             assert!(rt; holds(shelf.inner.inner(), "file", &bytes));
@@ -235,14 +237,14 @@ fn a_file_is_read_to_the_read_that_gives_nothing(rt: HostRuntime) -> Result<(), 
 }
 
 /// Whether all bytes are put, three at a time at most.
-fn puts_all(shelf: &mut ShyShelf, name: &str, bytes: &[u8]) -> bool {
+fn puts_all(shelf: &mut impl Shelf, name: &str, bytes: &[u8]) -> bool {
     put_all(shelf, name, bytes).is_ok()
 }
 
 #[test]
 fn all_bytes_are_put_piece_by_piece(rt: HostRuntime) -> Result<(), NoMemory> {
     let alloc = rt.alloc();
-    let mut shelf = ShyShelf::new(alloc, MemoryShelf::new(alloc), 5, 0)?;
+    let mut shelf = shy_shelf(alloc, MemoryShelf::new(alloc), 5, 0)?;
     assert!(rt; puts_all(&mut shelf, "none", b""));
     assert!(rt; shelf.inner.inner().file("none").is_none());
     assert!(rt; puts_all(&mut shelf, "text", b"01011101"));
@@ -254,7 +256,7 @@ fn all_bytes_are_put_piece_by_piece(rt: HostRuntime) -> Result<(), NoMemory> {
 #[test]
 fn a_put_that_fails_leaves_the_pieces_before_it(rt: HostRuntime) -> Result<(), NoMemory> {
     let alloc = rt.alloc();
-    let mut broken = ShyShelf::new(alloc, MemoryShelf::new(alloc), 2, 0)?;
+    let mut broken = shy_shelf(alloc, MemoryShelf::new(alloc), 2, 0)?;
     assert!(rt; !puts_all(&mut broken, "text", b"01011101"));
     assert!(rt; holds(broken.inner.inner(), "text", b"010"));
     Ok(())
