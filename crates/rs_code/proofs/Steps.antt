@@ -1,5 +1,5 @@
 -- What the loops over a word's weighted sums keep.
-use Rattle.std.proofs.Common.{false, true, Bool, ◌≡◌, ◌≢◌, ℕ, zero, suc, ◌+◌, ◌-◌, ◌*◌, ◌<◌, ◌≤◌, List, [], ◌∷◌, ◌++◌, length, take, drop, set, refl, sym, ◌∙◌, ap, arith, get_or, length-append, add-one, add-zero, zero-add, below_more, get_or-set_other, get_or-set_same, drop-drop, length-set, append-nil, replicate}
+use Rattle.std.proofs.Common.{false, true, Bool, ◌≡◌, ◌≢◌, ℕ, zero, suc, ◌+◌, ◌-◌, ◌*◌, ◌<◌, ◌≤◌, List, [], ◌∷◌, ◌++◌, length, take, drop, set, refl, sym, ◌∙◌, ap, ap₂, arith, get_or, length-append, add-one, add-zero, zero-add, below_more, get_or-set_other, get_or-set_same, drop-drop, length-set, append-nil, replicate}
 use Rattle.std.proofs.lemmas.List.{take_more, take_more_set, take_all, length-map, length-take-le, map_push, length_push, take-map, drop-map, drop_more, get_or-take, get_or-drop, drop-set-lt}
 use Rattle.std.proofs.lemmas.Bool.{ne_eqb}
 use Rattle.std.specs.Prelude.{bit_xor}
@@ -304,6 +304,19 @@ sum_of_terms-push (y ∷ xs) x = ap (plus y) (sum_of_terms-push xs x) ∙ sym (p
 
 pub sum_of_terms_more : (xs : List ℕ) (k : ℕ) → k < length xs → sum_of_terms (take (k + 1) xs) ≡ plus (sum_of_terms (take k xs)) (get_or xs k 0)
 sum_of_terms_more xs k within = ap sum_of_terms (take_more xs k 0 within) ∙ sum_of_terms-push (take k xs) (get_or xs k 0)
+
+pub at-zeros : (n k : ℕ) → get_or (replicate {A = ℕ} n 0) k 0 ≡ 0
+at-zeros zero k = refl
+at-zeros (suc n) zero = refl
+at-zeros (suc n) (suc k) = at-zeros n k
+
+-- zeros behind add nothing
+pub sum_of_terms_front : (n : ℕ) (xs : List ℕ) → ((k : ℕ) → n ≤ k → get_or xs k 0 ≡ 0) → sum_of_terms (take n xs) ≡ sum_of_terms xs
+sum_of_terms_front zero [] none = refl
+sum_of_terms_front zero (x ∷ xs) none =
+    sym (ap₂ (λ u v. plus u v) (none 0 (omega arith)) (sym (sum_of_terms_front zero xs (λ k h. none (suc k) (omega arith)))) ∙ zero-plus 0)
+sum_of_terms_front (suc n) [] none = refl
+sum_of_terms_front (suc n) (x ∷ xs) none = ap (plus x) (sum_of_terms_front n xs (λ k h. none (suc k) (omega (arith, h))))
 
 -- errors times the powers i of their points
 pub terms_moment : (terms ys exponents : List ℕ) (i : ℕ) → length exponents ≤ length terms → length exponents ≤ length ys

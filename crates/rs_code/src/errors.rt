@@ -93,6 +93,7 @@ fn error_values(exponents: &[u8], pair: &KeyPair, t: u32) -> [Gf; 16]
     requires evaluator { IsBelowDegree t (values pair.now.evaluator) }
     ensures right { (k : ℕ) → k < length exponents.now
         → IsErrorValue (values pair.now.locator) (values pair.now.evaluator) (slice_index exponents.now k) (slice_index (values result) k) }
+    ensures behind { (k : ℕ) → length exponents.now ≤ k → slice_index (values result) k ≡ 0 }
     ensures elements { All IsElement (values result) }
 {
     let points = inverse_points(exponents);
@@ -134,6 +135,7 @@ fn quotients(dividends: &[Gf; 16], divisors: &[Gf; 16], count: usize) -> [Gf; 16
     requires few { count ≤ 16 }
     ensures quotients { (k : ℕ) → k < count → slice_index (values divisors.now) k ≢ 0
         → slice_index (values result) k ≡ times (slice_index (values dividends.now) k) (inverse (slice_index (values divisors.now) k)) }
+    ensures behind { (k : ℕ) → count ≤ k → slice_index (values result) k ≡ 0 }
     ensures elements { All IsElement (values result) }
 {
     let mut quotients = [Gf::ZERO; 16];
@@ -154,17 +156,19 @@ fn quotient(dividend: Gf, divisor: Gf) -> Gf
     dividend.mul(divisor.inv())
 }
 
-/// Whether errors of these values at the points with these exponents have the first 2t sums.
+/// Whether errors of these values at the points with these exponents, and 0 behind them, have the first 2t
+/// sums.
 fn have_sums(exponents: &[u8], error_values: &[Gf; 16], sums: &[Gf; 32], t: u32) -> bool
     requires few { length exponents.now ≤ 16 }
     requires most { t ≤ 16 }
+    requires behind { (k : ℕ) → length exponents.now ≤ k → slice_index (values error_values.now) k ≡ 0 }
     requires elements { All IsElement (values error_values.now) }
     ensures { IsTrue result ↔ ((i : ℕ) → i < 2 * t → moment (values error_values.now) (powers exponents.now) i ≡ slice_index (values sums.now) i) }
 {
     let points = points_of(exponents);
     let mut terms = *error_values;
     for i in 0..2 * t as usize {
-        if sum_of_first(&terms, exponents.len()).value != sums[i].value {
+        if sum_of_all(&terms).value != sums[i].value {
             return false;
         }
         terms = products(&terms, &points);
@@ -184,13 +188,12 @@ fn points_of(exponents: &[u8]) -> [Gf; 16]
     points
 }
 
-/// The sum of the first terms.
-fn sum_of_first(terms: &[Gf; 16], count: usize) -> Gf
-    requires { count ≤ 16 }
-    ensures { result.value ≡ sum_of_terms (take count (values terms.now)) }
+/// The sum of the terms.
+fn sum_of_all(terms: &[Gf; 16]) -> Gf
+    ensures { result.value ≡ sum_of_terms (values terms.now) }
 {
     let mut sum = Gf::ZERO;
-    for k in 0..count {
+    for k in 0..16 {
         sum = sum.add(terms[k]);
     }
     sum

@@ -1,4 +1,4 @@
-use Rattle.std.proofs.Common.{◌≡◌, ℕ, ◌<◌, get_or, length}
+use Rattle.std.proofs.Common.{◌≡◌, ℕ, ◌<◌, ◌≤◌, get_or, length}
 use Rattle.gf256.specs.Field.{times, power, alpha}
 use Rattle.gf256.specs.Linear.{values}
 use Rattle.rs_code.specs.inside.Errors.{moment, powers}
@@ -9,5 +9,6 @@ invariant-loop-i l = record {
   full : length l.terms ≡ 16;
   terms : (k : ℕ) → k < length l.exponents
       → get_or (values l.terms) k 0 ≡ times (get_or (values l.error_values) k 0) (power (power alpha (get_or l.exponents k 0)) l.i);
+  behind : (k : ℕ) → length l.exponents ≤ k → get_or (values l.terms) k 0 ≡ 0;
   right : (k : ℕ) → k < l.i → moment (values l.error_values) (powers l.exponents) k ≡ get_or (values l.sums) k 0;
 }

@@ -4,12 +4,14 @@ use Rattle.std.proofs.lemmas.List.Elements.{All-set, All-replicate}
 use Rattle.gf256.specs.Field.{IsElement, times, inverse}
 use Rattle.gf256.specs.Linear.{values}
 use Rattle.gf256.proofs.Lists.{at-values, values-set, length-values}
+use Rattle.rs_code.proofs.Steps.{at-zeros}
 use Rattle.rs_code.proofs.errors.quotients.Goals as goal
 
 pub loop-k-init : goal.loop-k-init
 loop-k-init c = record {
   full = refl;
   elements = All-replicate IsElement 16 0 (omega arith);
+  behind = λ j h. at-zeros 16 j;
   written = λ j h. absurd (omega (arith, h));
 }
 
@@ -26,6 +28,8 @@ loop-k-preserved c =
     record {
       full = length-set c.loop-k.quotients k c.quotient.result ∙ c.loop-k.invariant.full;
       elements = subst (All IsElement) (sym written) (All-set IsElement xs k found c.quotient.ensures.element c.loop-k.invariant.elements);
+      behind = λ j h. let other : j ≢ k = omega (arith, h) in
+          ap (λ ys. get_or ys j 0) written ∙ get_or-set_other xs k j found 0 other ∙ c.loop-k.invariant.behind j (omega (arith, h));
       written = below_more _ _
           (λ j h ne. let other : j ≢ k = omega arith in
           ap (λ ys. get_or ys j 0) written ∙ get_or-set_other xs k j found 0 other ∙ c.loop-k.invariant.written j h ne)
