@@ -1,6 +1,8 @@
 mod ByBlockLaws
 mod CoverReading
+mod LandingLaws
 mod LeastPairs
+mod MeetLaws
 mod MoveTables
 pub mod OneAnswer
 mod PairArcs

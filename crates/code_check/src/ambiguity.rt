@@ -15,6 +15,9 @@ use symbol_base::{CodeName, Name, NoMemory, WordList};
 /// Two walks of past + 1 + ahead data words are ambiguous where they write the same blocks, and
 /// their words at place `past` differ. Pairs stand in order by the first walk's state, by the
 /// second's, and then by their words pair by pair.
+///
+/// Keeps a bit for each pair of states and each of past + 1 + ahead lengths. For a length it goes once
+/// over the words of each pair of states that such walks can come to, in the order of their blocks.
 pub fn least_ambiguous_pair(alloc: Global, code: &Code) -> Result<Option<(Walk, Walk)>, NoMemory>
     ensures least { IfOk result (λ answer. IfSome answer (λ pair.
         IsLeastAmbiguous code.now code.now.past code.now.ahead pair.0 pair.1)) }
@@ -35,7 +38,7 @@ fn least_walk_of_pairs(alloc: Global, code: &Code) -> Result<Option<(usize, Vec<
     ensures none { IfOk result (λ answer. IfNone answer (Separates code.now code.now.past code.now.ahead)) }
 {
     let pairs = Pairs::of(alloc, code)?;
-    least_unlike_walk(alloc, &pairs, code.word_count(), code.past, code.ahead)
+    least_unlike_walk(alloc, &pairs, code.past, code.ahead)
 }
 
 /// The two walks of a walk in the graph of pairs.

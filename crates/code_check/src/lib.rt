@@ -18,6 +18,8 @@ mod ambiguity;
 mod by_block;
 mod checker;
 mod fault;
+mod landings;
+mod meets;
 mod pairs;
 mod reader;
 mod reads;

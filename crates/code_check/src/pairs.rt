@@ -1,12 +1,14 @@
 ghost use Rattle.std.specs.Prelude.{◌≡◌, ◌+◌, ◌*◌, ◌^◌, ◌<◌, ◌≤◌, length, IfOk};
-ghost use Rattle.code_spec.specs.Code.{IsState, IsDataWord};
+ghost use Rattle.code_spec.specs.Code.{IsCode, IsState, IsDataWord};
 ghost use Rattle.least_walks.specs.Graph.{AreArcsBelow};
 ghost use Rattle.code_check.specs.inside.ByBlock.{AreByBlock};
 ghost use Rattle.code_check.specs.inside.PairGraph.{pair_graph};
 
 use crate::by_block::{BlockWord, all_by_block};
+use crate::landings::pairs_led_to;
+use crate::meets::meet_in;
 use code_model::Code;
-use least_walks::{Arc, ImplicitGraph};
+use least_walks::{Arc, Arcs, ImplicitGraph, NodeSet, PairGraph};
 use std::alloc::Global;
 use std::marker::Model;
 use symbol_base::{CodeName, Name, NoMemory};
@@ -35,6 +37,7 @@ impl<'a> Pairs<'a> {
     /// The graph of the pairs of states of this code.
     pub fn of(alloc: Global, code: &'a Code) -> Result<Pairs<'a>, NoMemory>
         ensures code { IfOk result (λ pairs. pairs ≡ code.now) }
+        ensures table { IsCode code.now }
     {
         let by_block = all_by_block(alloc, code)?;
         Ok(Pairs { code, by_block })
@@ -65,6 +68,27 @@ impl<'a> ImplicitGraph for Pairs<'a> {
             )?;
         }
         Ok(())
+    }
+}
+
+impl<'a> PairGraph for Pairs<'a> {
+    ghost use Rattle.std.specs.Prelude.{◌^◌};
+
+    ghost words = { λ c. 2 ^ c.p };
+
+    fn word_count(&self) -> u32 {
+        self.code.word_count()
+    }
+
+    fn targets(&self, alloc: Global) -> Result<NodeSet, NoMemory> {
+        pairs_led_to(alloc, self.code)
+    }
+
+    fn leads_into(&self, node: usize, arcs: Arcs, set: &NodeSet) -> bool {
+        let states = self.code.state_count() as usize;
+        let first = &self.by_block[node / states];
+        let second = &self.by_block[node % states];
+        meet_in(first, second, arcs, states, set)
     }
 }
 

@@ -1,6 +1,6 @@
-ghost use Rattle.std.specs.Prelude.{◌≡◌, ◌≤◌};
+ghost use Rattle.std.specs.Prelude.{◌≡◌, ◌≤◌, IfSome};
 
-use crate::{Walk, least_ambiguous_pair};
+use crate::{CheckFault, Walk, check, least_ambiguous_pair};
 use code_model::{Code, CodeRow};
 use constraint_model::Constraint;
 use std::alloc::Global;
@@ -35,11 +35,14 @@ fn no_two_zeros(alloc: Global, past: u32, ahead: u32) -> Result<Code, NoMemory>
     })
 }
 
-/// The code of one state that writes each bit as it is, but for a 1, which it writes as a 0.
-fn all_zeros(alloc: Global) -> Result<Code, NoMemory> {
+/// The code of one state that writes each bit as it is, but for a 1, which it writes as a 0; for a
+/// constraint with at most so many 0s in a row.
+fn all_zeros(alloc: Global, most: Option<u32>) -> Result<Code, NoMemory>
+    requires most { IfSome most (λ k. k ≤ 100) }
+{
     let only = vec![in alloc; row(0, 0), row(0, 0)]?;
     let rows = vec![in alloc; only]?;
-    let constraint = Constraint::run_length(alloc, 0, None);
+    let constraint = Constraint::run_length(alloc, 0, most);
     Ok(Code {
         constraint,
         p: 1,
@@ -63,6 +66,29 @@ fn shows(alloc: Global, code: &Code, first: &Walk, second: &Walk) -> Result<bool
         Some(pair) => Ok(pair.0 == *first && pair.1 == *second),
         None => Ok(false),
     }
+}
+
+/// Whether the code is refused for this fault.
+fn is_refused(alloc: Global, code: Code, fault: &CheckFault) -> bool {
+    match check(alloc, code) {
+        Ok(_) => false,
+        Err((_, found)) => found == *fault,
+    }
+}
+
+#[test]
+fn a_code_that_keeps_its_constraint_is_checked(rt: HostRuntime) -> Result<(), NoMemory> {
+    let code = no_two_zeros(rt.alloc(), 1, 1)?;
+    assert!(rt; check(rt.alloc(), code).is_ok());
+    Ok(())
+}
+
+#[test]
+fn the_least_words_outside_come_before_an_ambiguous_pair(rt: HostRuntime) -> Result<(), NoMemory> {
+    let code = all_zeros(rt.alloc(), Some(1))?;
+    let words = WordList::copy(rt.alloc(), &[0, 0])?;
+    assert!(rt; is_refused(rt.alloc(), code, &CheckFault::OutOfConstraint(words)));
+    Ok(())
 }
 
 #[test]
@@ -93,7 +119,7 @@ fn without_ahead_two_words_are_ambiguous(rt: HostRuntime) -> Result<(), NoMemory
 
 #[test]
 fn words_that_write_one_block_are_ambiguous(rt: HostRuntime) -> Result<(), NoMemory> {
-    let code = all_zeros(rt.alloc())?;
+    let code = all_zeros(rt.alloc(), None)?;
     let first = walk(rt.alloc(), 0, &[0])?;
     let second = walk(rt.alloc(), 0, &[1])?;
     assert!(rt; shows(rt.alloc(), &code, &first, &second)?);

@@ -1,5 +1,5 @@
 -- Lists as the program reads and writes them.
-use Rattle.std.proofs.Common.{◌≡◌, ℕ, zero, suc, ◌<◌, List, [], ◌∷◌, ◌++◌, take, drop, length, get_or, Bool, true, false, refl, ap, sym, ◌∙◌, arith}
+use Rattle.std.proofs.Common.{◌≡◌, ℕ, ◌<◌, List, ◌++◌, take, drop, length, get_or, Bool, true, false, ap, sym, ◌∙◌, arith}
 use Rattle.std.proofs.lemmas.List.{get_or_default, take-append-le, take_all}
 use Rattle.least_walks.specs.declared.breadth_first.Found.{Found}
 use Rattle.least_walks.specs.inside.Found.{nothing, node_at}

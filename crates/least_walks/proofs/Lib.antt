@@ -3,6 +3,8 @@ mod Begins
 mod Chosen
 mod Ends
 mod Indexing
+mod LayerSteps
+mod NodeBits
 mod Order
 mod Places
 mod Pushes

@@ -5,7 +5,6 @@ use Rattle.std.proofs.lemmas.Bool.{cases_lt, cases_eq}
 use Rattle.symbol_base.specs.Word.{IsBefore}
 use Rattle.least_walks.specs.declared.Arc.{Arc}
 use Rattle.least_walks.specs.declared.breadth_first.Found.{Found}
-use Rattle.symbol_base.specs.Walk.{IsWalk}
 use Rattle.symbol_base.proofs.Walks.{walk-more}
 use Rattle.least_walks.specs.Graph.{Graph, AreArcsOf, no_arc}
 use Rattle.least_walks.specs.inside.Found.{IsFoundBy, Searched, Half, IsTaken, KeepsFront, nothing, node_at, walk_to}

@@ -1,10 +1,12 @@
-ghost use Rattle.std.specs.Prelude.{◌≡◌, ℕ, List, ◌+◌, ◌<◌, ◌↔◌, length, get_or, IsTrue, IfOk, IfSome, IfNone};
+ghost use Rattle.std.specs.Prelude.{◌≡◌, ℕ, List, ◌+◌, ◌^◌, ◌<◌, ◌↔◌, length, get_or, IsTrue, IfOk, IfSome, IfNone};
 ghost use Rattle.least_walks.specs.Graph.{AreArcsOf, no_arc};
 ghost use Rattle.least_walks.specs.UnlikeWalk.{IsUnlikeWalk, IsLeastUnlikeWalk};
-ghost use Rattle.least_walks.specs.inside.Layers.{HasUnlikeWalk, IsLeastFrom, IsLeastOfAll, IsLayer, AreLayers, IsUsable, IsFirstUsable};
+ghost use Rattle.least_walks.specs.inside.Layers.{HasUnlikeWalk, IsLeastFrom, IsLeastOfAll, AreLayers, IsLayer, IsUsable, IsFirstUsable};
 
 use crate::Arc;
-use crate::implicit_graph::ImplicitGraph;
+use crate::layers::{first_start, layers_to};
+use crate::node_set::NodeSet;
+use crate::pair_graph::PairGraph;
 use std::alloc::Global;
 use symbol_base::NoMemory;
 
@@ -12,131 +14,65 @@ use symbol_base::NoMemory;
 /// labels behind it; none where there is no such walk. It begins at the first node that has one,
 /// and of those from that node it is the smallest at the first difference.
 ///
-/// A label stands for two of so many words: the first word times `words`, and the second one.
-pub fn least_unlike_walk<G: ImplicitGraph>(
+/// Goes from the end of the walks to their start, and keeps for each length the nodes from which a
+/// walk of it begins: a bit for each of `past + 1 + ahead` lengths and each node. For a length it asks
+/// at most once a node where its arcs lead, and for the lengths up to `ahead` alone the nodes that the
+/// length before has left over.
+pub fn least_unlike_walk<G: PairGraph>(
     alloc: Global,
     graph: &G,
-    words: u32,
     past: u32,
     ahead: u32,
 ) -> Result<Option<(usize, Vec<u32>)>, NoMemory>
-    requires words { 0 < words }
     ensures least { IfOk result (λ answer. IfSome answer (λ found.
-        IsLeastUnlikeWalk (G.graph graph.now) words past ahead found.0 found.1.items)) }
+        IsLeastUnlikeWalk (G.graph graph.now) (G.words graph.now) past ahead found.0 found.1.items)) }
     ensures none { IfOk result (λ answer. IfNone answer ((v : ℕ) (labels : List ℕ) → v < (G.graph graph.now).nodes
-        → IsUnlikeWalk (G.graph graph.now) words past ahead v labels → ⊥)) }
+        → IsUnlikeWalk (G.graph graph.now) (G.words graph.now) past ahead v labels → ⊥)) }
 {
-    let len = past as usize + 1 + ahead as usize;
-    least_of_length(alloc, graph, words, ahead as usize, len)
+    least_of_length(alloc, graph, ahead as usize, past as usize + ahead as usize)
 }
 
-/// The least walk of this length, from the first node that has one, whose label with `ahead`
-/// labels behind it stands for two unlike words.
-fn least_of_length<G: ImplicitGraph>(
+/// The least walk of `last` arcs and one, from the first node that has one, whose label with `ahead`
+/// labels behind it has unlike words.
+fn least_of_length<G: PairGraph>(
     alloc: Global,
     graph: &G,
-    words: u32,
     ahead: usize,
-    len: usize,
+    last: usize,
 ) -> Result<Option<(usize, Vec<u32>)>, NoMemory>
-    requires words { 0 < words }
+    requires last { last < 2 ^ 34 }
     ensures least { IfOk result (λ answer. IfSome answer (λ found.
-        IsLeastOfAll (G.graph graph.now) words ahead len found.0 found.1.items)) }
+        IsLeastOfAll (G.graph graph.now) (G.words graph.now) ahead (last + 1) found.0 found.1.items)) }
     ensures none { IfOk result (λ answer. IfNone answer ((v : ℕ) → v < (G.graph graph.now).nodes
-        → HasUnlikeWalk (G.graph graph.now) words ahead len v → ⊥)) }
+        → HasUnlikeWalk (G.graph graph.now) (G.words graph.now) ahead (last + 1) v → ⊥)) }
 {
-    let layers = layers_to(alloc, graph, words, ahead, len)?;
-    for at in 0..graph.node_count() {
-        if layers[len][at] {
-            return Ok(Some((at, choose(alloc, graph, words, ahead, &layers, at, len)?)));
-        }
+    let layers = layers_to(alloc, graph, ahead, last)?;
+    match first_start(graph, ahead, last, &layers[last]) {
+        Some(start) => Ok(Some((start, choose(alloc, graph, ahead, &layers, start)?))),
+        None => Ok(None),
     }
-    Ok(None)
 }
 
-/// The layers of the lengths 0 to `len`: of each node whether a walk of that length begins there.
-fn layers_to<G: ImplicitGraph>(
+/// The least walk from the node, one arc longer than the walks of the last layer.
+fn choose<G: PairGraph>(
     alloc: Global,
     graph: &G,
-    words: u32,
     ahead: usize,
-    len: usize,
-) -> Result<Vec<Vec<bool>>, NoMemory>
-    requires words { 0 < words }
-    ensures layers { IfOk result (λ layers. AreLayers (G.graph graph.now) words ahead (len + 1) layers.items) }
-{
-    let mut layers = Vec::new(alloc);
-    layers.push(Vec::from_elem(alloc, true, graph.node_count())?)?;
-    for left in 0..len {
-        let before = layer_before(alloc, graph, words, ahead, left, &layers[left])?;
-        layers.push(before)?;
-    }
-    Ok(layers)
-}
-
-/// Of each node whether a walk with one arc more than those of the layer begins there.
-fn layer_before<G: ImplicitGraph>(
-    alloc: Global,
-    graph: &G,
-    words: u32,
-    ahead: usize,
-    left: usize,
-    layer: &[bool],
-) -> Result<Vec<bool>, NoMemory>
-    requires words { 0 < words }
-    requires layer { IsLayer (G.graph graph.now) words ahead left layer.now }
-    ensures layer { IfOk result (λ before. IsLayer (G.graph graph.now) words ahead (left + 1) before.items) }
-{
-    let mut room = Vec::new(alloc);
-    let mut before = Vec::new(alloc);
-    for at in 0..graph.node_count() {
-        let here = begins(graph, &mut room, at, words, ahead, left, layer)?;
-        before.push(here)?;
-    }
-    Ok(before)
-}
-
-/// Whether a walk with `left` arcs behind its first one begins at the node.
-fn begins<G: ImplicitGraph>(
-    graph: &G,
-    room: &mut Vec<Arc>,
-    at: usize,
-    words: u32,
-    ahead: usize,
-    left: usize,
-    layer: &[bool],
-) -> Result<bool, NoMemory>
-    requires words { 0 < words }
-    requires layer { IsLayer (G.graph graph.now) words ahead left layer.now }
-    requires at { at < (G.graph graph.now).nodes }
-    ensures begins { IfOk result (λ b. IsTrue b ↔ HasUnlikeWalk (G.graph graph.now) words ahead (left + 1) at) }
-{
-    graph.arcs_of(at, room)?;
-    Ok(first_arc(room, words, ahead, left, layer).is_some())
-}
-
-/// The least walk of the length from the node.
-fn choose<G: ImplicitGraph>(
-    alloc: Global,
-    graph: &G,
-    words: u32,
-    ahead: usize,
-    layers: &[Vec<bool>],
+    layers: &[NodeSet],
     start: usize,
-    len: usize,
 ) -> Result<Vec<u32>, NoMemory>
-    requires words { 0 < words }
-    requires layers { AreLayers (G.graph graph.now) words ahead (len + 1) layers.now }
+    requires layers { AreLayers (G.graph graph.now) (G.words graph.now) ahead (length layers.now) layers.now }
     requires start { start < (G.graph graph.now).nodes }
-    requires begins { HasUnlikeWalk (G.graph graph.now) words ahead len start }
-    ensures least { IfOk result (λ labels. IsLeastFrom (G.graph graph.now) words ahead len start labels.items) }
+    requires begins { HasUnlikeWalk (G.graph graph.now) (G.words graph.now) ahead (length layers.now) start }
+    ensures least { IfOk result (λ labels.
+        IsLeastFrom (G.graph graph.now) (G.words graph.now) ahead (length layers.now) start labels.items) }
 {
     let mut room = Vec::new(alloc);
     let mut labels = Vec::new(alloc);
     let mut at = start;
-    for done in 0..len {
-        let left = len - 1 - done;
-        let arc = next_arc(graph, &mut room, at, words, ahead, left, &layers[left])?;
+    for done in 0..layers.len() {
+        let left = layers.len() - 1 - done;
+        let arc = next_arc(graph, &mut room, at, ahead, left, &layers[left])?;
         labels.push(arc.label)?;
         at = arc.to;
     }
@@ -144,31 +80,29 @@ fn choose<G: ImplicitGraph>(
 }
 
 /// The first arc of the least walk with `left` arcs behind it, where one begins at the node.
-fn next_arc<G: ImplicitGraph>(
+fn next_arc<G: PairGraph>(
     graph: &G,
     room: &mut Vec<Arc>,
     at: usize,
-    words: u32,
     ahead: usize,
     left: usize,
-    layer: &[bool],
+    layer: &NodeSet,
 ) -> Result<Arc, NoMemory>
-    requires words { 0 < words }
-    requires layer { IsLayer (G.graph graph.now) words ahead left layer.now }
+    requires layer { IsLayer (G.graph graph.now) (G.words graph.now) ahead left layer.now }
     requires at { at < (G.graph graph.now).nodes }
-    requires begins { HasUnlikeWalk (G.graph graph.now) words ahead (left + 1) at }
-    ensures first { IfOk result (λ arc. IsFirstUsable words ahead left layer.now room.new.items arc) }
+    requires begins { HasUnlikeWalk (G.graph graph.now) (G.words graph.now) ahead (left + 1) at }
+    ensures first { IfOk result (λ arc. IsFirstUsable (G.words graph.now) ahead left layer.now room.new.items arc) }
     ensures arcs { IfOk result (λ _. AreArcsOf (G.graph graph.now) at room.new.items) }
 {
     graph.arcs_of(at, room)?;
-    match first_arc(room, words, ahead, left, layer) {
+    match first_arc(room, graph.word_count(), ahead, left, layer) {
         Some(arc) => Ok(arc),
         None => unreachable!(),
     }
 }
 
 /// The first of the arcs with which a walk can begin.
-fn first_arc(arcs: &[Arc], words: u32, ahead: usize, left: usize, layer: &[bool]) -> Option<Arc>
+fn first_arc(arcs: &[Arc], words: u32, ahead: usize, left: usize, layer: &NodeSet) -> Option<Arc>
     requires inside { (k : ℕ) → k < length arcs.now → (get_or arcs.now k no_arc).to < length layer.now }
     requires words { 0 < words }
     ensures some { IfSome result (λ arc. IsFirstUsable words ahead left layer.now arcs.now arc) }
@@ -184,10 +118,10 @@ fn first_arc(arcs: &[Arc], words: u32, ahead: usize, left: usize, layer: &[bool]
 }
 
 /// Whether a walk can begin with this arc, with `left` arcs behind it.
-fn is_usable(arc: Arc, words: u32, ahead: usize, left: usize, layer: &[bool]) -> bool
+fn is_usable(arc: Arc, words: u32, ahead: usize, left: usize, layer: &NodeSet) -> bool
     requires inside { arc.to < length layer.now }
     requires words { 0 < words }
     ensures usable { IsTrue result ↔ IsUsable words ahead left layer.now arc }
 {
-    layer[arc.to] && (left != ahead || arc.label / words != arc.label % words)
+    layer.contains(arc.to) && (left != ahead || arc.label / words != arc.label % words)
 }

@@ -1,6 +1,0 @@
-use Rattle.std.proofs.Common.{◌+◌}
-use Rattle.least_walks.specs.inside.Layers.{AreLayers}
-use Rattle.least_walks.proofs.one_length.layers_to.Given as goal
-
-abbrev pub invariant-loop-left : goal.invariant-loop-left
-invariant-loop-left g l = AreLayers (g.G.ImplicitGraph.graph l.graph) l.words l.ahead (l.left + 1) l.layers.items
