@@ -1,7 +1,13 @@
+pub mod Comings
 pub mod CountLaws
 pub mod DigitLaws
 pub mod EntryLaws
+pub mod FileLaws
 pub mod ItemLaws
 pub mod NumberLaws
+pub mod PartLaws
 pub mod PieceLaws
 pub mod PutLaws
+pub mod ReaderLaws
+pub mod SetLaws
+pub mod TextLaws

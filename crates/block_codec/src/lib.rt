@@ -1,18 +1,31 @@
-//! Encoding: data words to blocks, and files to plain channel text.
+//! Encoding and decoding: data words to blocks and back, and files to plain channel text and back.
 #![tactic(auto)]
 
+mod block_decoder;
 mod bytes;
 mod counts;
 mod encoder;
+mod fault;
 mod item_table;
+mod laws;
+mod part;
 mod pieces;
+mod reader;
+mod state_sets;
 mod steps;
 mod table;
+mod text_decoder;
 mod text_writer;
+mod window;
 mod words;
 
+pub use block_decoder::BlockDecoder;
+pub use code_spec::EndFault;
 pub use counts::{block_count, symbol_count};
 pub use encoder::Encoder;
+pub use fault::TextFault;
+pub use laws::plain_text_gives_its_file;
+pub use text_decoder::TextDecoder;
 pub use text_writer::TextWriter;
 
 #[cfg(test)]

@@ -1,5 +1,7 @@
 ghost use Rattle.std.specs.Prelude.{◌≡◌, ◌≤◌, ◌^◌, length, IfOk};
 
+use crate::reader::Reader;
+use crate::window::decode_window;
 use crate::{TextWriter, block_count, symbol_count};
 use code_model::{Code, CodeRow};
 use constraint_model::Constraint;
@@ -215,4 +217,72 @@ fn a_fault_leaves_a_front_of_the_text(rt: HostRuntime) -> Result<(), Fail> {
         is_left(&rt, alloc, &code, call, left)?;
     }
     Ok(())
+}
+
+// the byte 1B is written as 2 7 6 5 3 5, and its words are 0 1 2 3; no walk gives three blocks of 0s
+#[test]
+fn each_window_has_its_word(rt: HostRuntime) -> Result<(), Fail> {
+    let code = no_two_zeros(rt.alloc())?;
+    let windows = [
+        (2, 7, 6, 0),
+        (7, 6, 5, 1),
+        (6, 5, 3, 2),
+        (5, 3, 5, 3),
+        (0, 0, 0, 0),
+    ];
+    for (before, here, behind, word) in windows {
+        let window = [
+            Block { value: before },
+            Block { value: here },
+            Block { value: behind },
+        ];
+        assert!(rt; window.len() == (code.past + 1 + code.ahead) as usize);
+        assert_eq!(rt; decode_window(&code, &window), word);
+    }
+    Ok(())
+}
+
+/// Reads a text in two pieces, of which the first has so many bytes, and shows that it gives this file.
+fn is_file(
+    rt: &impl Abort,
+    alloc: Global,
+    code: &Code,
+    text: &[u8],
+    cut: usize,
+    file: &[u8],
+) -> Result<(), Fail> {
+    assert!(rt; text.len() < 20000 && cut <= text.len());
+    let _states = code.state_count();
+    let mut reader = Reader::new(alloc, code)?;
+    let mut out = Vec::new(alloc);
+    out.reserve(cut)?;
+    assert!(rt; reader.take_piece(code, &text[..cut], &mut out).is_none());
+    out.reserve(text.len() - cut)?;
+    assert!(rt; reader.take_piece(code, &text[cut..], &mut out).is_none());
+    assert!(rt; out.as_slice() == file);
+    Ok(())
+}
+
+#[test]
+fn texts_of_known_codes_give_their_files(rt: HostRuntime) -> Result<(), Fail> {
+    let alloc = rt.alloc();
+    let code = no_two_zeros(alloc)?;
+    let text = b"010111110101011101\n";
+    for cut in [0, 1, 2, 3, 5, 10, 18, 19] {
+        is_file(&rt, alloc, &code, text, cut, b"\x1b")?;
+    }
+    is_file(&rt, alloc, &code, b"110111110101011101\n", 7, b"\x1b")?;
+    is_file(&rt, alloc, &code, b"010 111 110 101 011 101 \n", 9, b"\x1b")?;
+    is_file(
+        &rt,
+        alloc,
+        &code,
+        b"\r\n01 0\r1 11110\n1010 11 101\r\n",
+        11,
+        b"\x1b",
+    )?;
+    let code = mfm(alloc)?;
+    is_file(&rt, alloc, &code, b"10100100010100101001\n", 6, b"\xb1")?;
+    let code = three_bits(alloc)?;
+    is_file(&rt, alloc, &code, b"111111110\n", 4, b"\xff")
 }

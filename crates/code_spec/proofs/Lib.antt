@@ -1,7 +1,13 @@
+pub mod Chunks
 pub mod DataWords
+pub mod DecoderLaws
 pub mod Examples
 pub mod FileWords
 pub mod OutputLaws
+pub mod OutputParts
 pub mod PlainTextLaws
+pub mod ReadBack
+pub mod ReadingLaws
 pub mod StepLaws
+pub mod WalkLaws
 pub mod WitnessLaws

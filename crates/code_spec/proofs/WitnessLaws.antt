@@ -1,12 +1,11 @@
 -- Ambiguous pairs of walks, and the least of them.
-use Rattle.std.proofs.Common.{◌≡◌, ◌≢◌, ◌↔◌, ℕ, ◌+◌, ◌<◌, ◌⊎◌, inl, inr, ⊎_elim, List, [], ◌∷◌, length, get_or, refl, sym, arith}
+use Rattle.std.proofs.Common.{◌≡◌, ◌↔◌, ℕ, inl, inr, ⊎_elim, List, [], ◌∷◌, get_or, sym, arith}
 use Rattle.std.proofs.lemmas.Bool.{cases_eq}
 use Rattle.symbol_base.specs.Word.{IsSmallerAtFirst, IsBefore}
 use Rattle.code_spec.specs.declared.Walk.{Walk}
-use Rattle.code_spec.specs.Code.{CodeData, IsState, IsDataWords}
-use Rattle.code_spec.specs.Output.{output}
+use Rattle.code_spec.specs.Code.{CodeData}
 use Rattle.code_spec.specs.Checked.{Separates}
-use Rattle.code_spec.specs.Witness.{IsLeastOutside, IsWalkOver, IsAmbiguous, IsLeastAmbiguous, IsPairBefore, in_pairs}
+use Rattle.code_spec.specs.Witness.{IsLeastOutside, IsAmbiguous, IsLeastAmbiguous, IsPairBefore, in_pairs}
 
 -- where the window tells the word no pair is ambiguous
 told_apart :

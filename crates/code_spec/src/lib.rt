@@ -1,16 +1,24 @@
 //! What a code is and what it writes: the definitions that every crate above cites, and their laws.
 #![tactic(auto)]
 
-ghost use Rattle.std.specs.Prelude.{◌≡◌, ℕ, ◌+◌, ◌*◌, ◌<◌, ◌↔◌, List, ◌++◌, length};
+ghost use Rattle.std.specs.Prelude.{◌≡◌, ℕ, ◌+◌, ◌*◌, ◌<◌, ◌^◌, ◌⊎◌, ◌↔◌, List, ◌∷◌, ◌++◌, length, slice_index, All, Result, Ok};
+ghost use Rattle.symbol_base.specs.declared.Block.{Block};
 ghost use Rattle.symbol_base.specs.Walk.{IsWalk};
 ghost use Rattle.code_spec.specs.declared.CodeRow.{CodeRow};
 ghost use Rattle.code_spec.specs.Code.{CodeData, IsCode, IsState, IsDataWords};
-ghost use Rattle.code_spec.specs.Output.{output_from, state_after, IsStep};
+ghost use Rattle.code_spec.specs.Output.{output_from, state_after, output, IsStep};
 ghost use Rattle.code_spec.specs.PlainText.{word_count, file_words, data_words, plain_symbols, plain_text, plain_length};
+ghost use Rattle.code_spec.specs.PlainReading.{marks_in, IsPlainFront, ReadsText};
+ghost use Rattle.code_spec.specs.declared.fault.EndFault.{EndFault};
 ghost use Rattle.code_spec.specs.declared.Walk.{Walk};
-ghost use Rattle.code_spec.specs.Checked.{Separates};
+ghost use Rattle.code_spec.specs.Checked.{Separates, IsCheckedCode};
+ghost use Rattle.code_spec.specs.Decoder.{window_length, IsFound, IsDecoded, AreDecoded, inner_words, DifferAt};
+ghost use Rattle.code_spec.specs.Walks.{IsWalkOf, IsBetween};
 ghost use Rattle.code_spec.specs.Witness.{IsLeastOutside, IsAmbiguous, IsLeastAmbiguous};
 
+mod fault;
+
+pub use fault::EndFault;
 use symbol_base::{Block, CodeName, WordList};
 
 /// What a code does in a state with a data word: the block that it writes, and the next state.
@@ -79,4 +87,52 @@ pub fn least_ambiguous_pair_is_one()
 /// The least data words that write no word of the constraint are one list.
 pub fn least_words_outside_are_one()
     ensures one { (c : CodeData) (words other : List ℕ) → IsLeastOutside c words → IsLeastOutside c other → words ≡ other }
+{}
+
+/// A checked code has one data word for each window, so its decoder has one answer.
+pub fn decoder_has_one_answer()
+    ensures { (c : CodeData) (window : List Block) (u v : ℕ) → IsCheckedCode c → length window ≡ window_length c
+        → IsDecoded c window u → IsDecoded c window v → u ≡ v }
+{}
+
+/// A window's word is found between the states that its front leads to and those from which its back can be read.
+pub fn word_lies_between()
+    ensures { (c : CodeData) (front : List Block) (block : Block) (back : List Block) (word : ℕ) → length front ≡ c.past
+        → (IsFound c (front ++ (block ∷ back)) word ↔ IsBetween c front block back word) }
+{}
+
+/// A wrong block changes only the data words of the places from `ahead` before it to `past` behind it: the word of
+/// place j is that of the window that begins at j less `past`.
+pub fn wrong_block_reaches_few_words()
+    ensures { (c : CodeData) (xs ys : List Block) (us vs : List ℕ) (place at : ℕ) → IsCheckedCode c → DifferAt place xs ys
+        → AreDecoded c xs us → AreDecoded c ys vs
+        → (place < at) ⊎ (at + (c.past + c.ahead) < place) → slice_index us at ≡ slice_index vs at }
+{}
+
+/// What a checked code writes is decoded to what was written.
+pub fn written_words_are_decoded()
+    ensures words { (c : CodeData) (state : ℕ) (words found : List ℕ) → IsCheckedCode c → IsState c state
+        → IsDataWords c words → AreDecoded c (output c state words) found → found ≡ inner_words c words }
+    ensures file { (c : CodeData) (file found : List ℕ) → IsCheckedCode c
+        → AreDecoded c (output c 0 (data_words c file)) found → found ≡ file_words c.p file }
+{}
+
+/// Any walk that writes the blocks answers all their windows, however it was found.
+pub fn walk_answers_all_windows()
+    ensures { (c : CodeData) (state next : ℕ) (words : List ℕ) (blocks : List Block) → IsCode c → IsState c state
+        → IsWalkOf c state words blocks next → AreDecoded c blocks (inner_words c words) }
+{}
+
+/// A text gives one file or one refusal under a checked code, and one front that may go on.
+pub fn text_has_one_reading()
+    ensures reading { (c : CodeData) (text : List ℕ) (one other : Result (List ℕ) EndFault) → IsCheckedCode c
+        → ReadsText c text one → ReadsText c text other → one ≡ other }
+    ensures front { (c : CodeData) (text one other : List ℕ) → IsCheckedCode c
+        → IsPlainFront c text one → IsPlainFront c text other → one ≡ other }
+{}
+
+/// The plain text of a file is read back to the file, wherever line feeds, carriage returns and spaces stand in it.
+pub fn plain_text_is_read_back()
+    ensures file { (c : CodeData) (file text : List ℕ) → IsCheckedCode c → All (λ byte. byte < 2 ^ 8) file
+        → marks_in text ≡ marks_in (plain_text c file) → ReadsText c text (Ok file) }
 {}

@@ -3,8 +3,10 @@ use Rattle.std.proofs.Common.{◌≡◌, ℕ, ◌<◌, ◌≤◌, List, length, 
 use Rattle.std.specs.Prelude.{IsSomeAnd}
 use Rattle.shelf_io.specs.Shelf.{Files}
 use Rattle.command_steps.specs.declared.status.Status.{Status}
-use Rattle.command_steps.specs.declared.status.Status.TheVariants.{FileTooLong, ConstraintRefused, TooLarge, CodeRefused, NoMemory, FileMissing}
+use Rattle.command_steps.specs.declared.status.Status.TheVariants.{FileTooLong, ConstraintRefused, TooLarge, CodeRefused, ChannelRefused, NoMemory, FileMissing, InfiniteMemory, NoVector}
 use Rattle.constraint_file_spec.specs.declared.fault.ConstraintFault.{ConstraintFault}
+use Rattle.command_steps.specs.declared.status.ChannelFault.{ChannelFault}
+use Rattle.min_cover.specs.declared.fault.TwoStates.{TwoStates}
 use Rattle.command_steps.specs.declared.status.CodeFault.{CodeFault}
 use Rattle.command_steps.specs.declared.status.Limit.{Limit}
 use Rattle.command_steps.specs.Step.{Step, Gives, gives, Then, stops, goes_on, Needs, holds, fails, Reads, understood, refused_for, InputAt, missing, too_long, found, IsSingle}
@@ -21,8 +23,17 @@ constraint_refused_is_refusal why = record { not_done = λ e. absurd cc; not_usa
 pub too_large_is_refusal : (limit : Limit) → IsRefusal (TooLarge limit)
 too_large_is_refusal limit = record { not_done = λ e. absurd cc; not_usage = λ e. absurd cc; not_shelf_fault = λ e. absurd cc; not_sink_fault = λ e. absurd cc; not_memory = λ e. absurd cc }
 
+pub infinite_memory_is_refusal : (two : TwoStates) → IsRefusal (InfiniteMemory two)
+infinite_memory_is_refusal two = record { not_done = λ e. absurd cc; not_usage = λ e. absurd cc; not_shelf_fault = λ e. absurd cc; not_sink_fault = λ e. absurd cc; not_memory = λ e. absurd cc }
+
+pub no_vector_is_refusal : IsRefusal NoVector
+no_vector_is_refusal = record { not_done = λ e. absurd cc; not_usage = λ e. absurd cc; not_shelf_fault = λ e. absurd cc; not_sink_fault = λ e. absurd cc; not_memory = λ e. absurd cc }
+
 pub code_refused_is_refusal : (why : CodeFault) → IsRefusal (CodeRefused why)
 code_refused_is_refusal why = record { not_done = λ e. absurd cc; not_usage = λ e. absurd cc; not_shelf_fault = λ e. absurd cc; not_sink_fault = λ e. absurd cc; not_memory = λ e. absurd cc }
+
+pub channel_refused_is_refusal : (why : ChannelFault) → IsRefusal (ChannelRefused why)
+channel_refused_is_refusal why = record { not_done = λ e. absurd cc; not_usage = λ e. absurd cc; not_shelf_fault = λ e. absurd cc; not_sink_fault = λ e. absurd cc; not_memory = λ e. absurd cc }
 
 pub missing_is_refusal : (place : ℕ) → IsRefusal (FileMissing place)
 missing_is_refusal place = record { not_done = λ e. absurd cc; not_usage = λ e. absurd cc; not_shelf_fault = λ e. absurd cc; not_sink_fault = λ e. absurd cc; not_memory = λ e. absurd cc }
@@ -105,6 +116,15 @@ then_is_single first next once each files x y (stops s at_s) (goes_on b outcome 
 then_is_single first next once each files x y (goes_on a outcome at_a rest) (stops t at_t) = absurd (ok_isnt_err a t (once files (Ok a) (Err t) at_a at_t))
 then_is_single first next once each files x y (goes_on a left at_a rest) (goes_on b right at_b other) =
     each a files x y rest (subst (λ (c : _). next c (Some files) y) (sym (ok_is a b (once files (Ok a) (Ok b) at_a at_b))) other)
+
+-- a row is single where its first step is, and its second behind each value that the first can give
+pub then_is_single_of : {A B : Type 0} (P : A → Type 0) (first : Step A) (next : A → Step B) → IsSingle first → ((files : Option Files) (value : A) → first files (Ok value) → P value)
+    → ((value : A) → P value → IsSingle (next value)) → IsSingle (Then first next)
+then_is_single_of P first next once keeps each files x y (stops s at_s) (stops t at_t) = ap with_status (err_is s t (once files (Err s) (Err t) at_s at_t))
+then_is_single_of P first next once keeps each files x y (stops s at_s) (goes_on b outcome at_b rest) = absurd (ok_isnt_err b s (once files (Ok b) (Err s) at_b at_s))
+then_is_single_of P first next once keeps each files x y (goes_on a outcome at_a rest) (stops t at_t) = absurd (ok_isnt_err a t (once files (Ok a) (Err t) at_a at_t))
+then_is_single_of P first next once keeps each files x y (goes_on a left at_a rest) (goes_on b right at_b other) =
+    each a (keeps (Some files) a at_a) files x y rest (subst (λ (c : _). next c (Some files) y) (sym (ok_is a b (once files (Ok a) (Ok b) at_a at_b))) other)
 
 -- ---- what a function returned that is a row of `?`
 

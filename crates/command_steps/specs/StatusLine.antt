@@ -2,8 +2,8 @@
 use Rattle.std.specs.Prelude.{ℕ, List, [], ◌∷◌, ◌++◌, codes}
 use Rattle.std.specs.Fmt.{decimal}
 use Rattle.command_steps.specs.declared.status.Status.{Status}
-use Rattle.command_steps.specs.declared.status.Status.TheVariants.{Done, Usage, ShelfFault, SinkFault, FileTooLong, ConstraintRefused, TooLarge, CodeRefused, NoMemory, FileMissing}
-use Rattle.command_steps.specs.FaultLines.{line_of_constraint_fault, line_of_limit, line_of_code_fault}
+use Rattle.command_steps.specs.declared.status.Status.TheVariants.{Done, Usage, ShelfFault, SinkFault, FileTooLong, ConstraintRefused, TooLarge, CodeRefused, ChannelRefused, NoMemory, FileMissing, InfiniteMemory, NoVector}
+use Rattle.command_steps.specs.FaultLines.{line_of_constraint_fault, line_of_limit, line_of_code_fault, line_of_channel_fault, line_of_two_states}
 
 abbrev pub exit_status : Status → ℕ
 exit_status Done = 0
@@ -13,7 +13,10 @@ exit_status SinkFault = 3
 exit_status (FileTooLong limit) = 4
 exit_status (ConstraintRefused fault) = 5
 exit_status (TooLarge limit) = 6
+exit_status (InfiniteMemory two) = 7
+exit_status NoVector = 8
 exit_status (CodeRefused fault) = 9
+exit_status (ChannelRefused fault) = 10
 exit_status NoMemory = 13
 exit_status (FileMissing place) = 14
 
@@ -26,6 +29,9 @@ line_of_status SinkFault = codes "sink fault" ++ 10 ∷ []
 line_of_status (FileTooLong limit) = codes "file too long " ++ decimal limit ++ 10 ∷ []
 line_of_status (ConstraintRefused fault) = line_of_constraint_fault fault
 line_of_status (TooLarge limit) = line_of_limit limit
+line_of_status (InfiniteMemory two) = line_of_two_states two
+line_of_status NoVector = codes "no vector" ++ 10 ∷ []
 line_of_status (CodeRefused fault) = line_of_code_fault fault
+line_of_status (ChannelRefused fault) = line_of_channel_fault fault
 line_of_status NoMemory = codes "out of memory" ++ 10 ∷ []
 line_of_status (FileMissing place) = codes "missing file: word " ++ decimal place ++ 10 ∷ []

@@ -13,4 +13,4 @@ pub use answer::{Reply, deliver};
 pub use input::read_input;
 pub use lines::{status_line, write_behind_spaces};
 pub use printing::{print_all, print_line};
-pub use status::{CodeFault, Limit, Status};
+pub use status::{ChannelFault, CodeFault, Limit, Status};

@@ -2,11 +2,12 @@ ghost use Rattle.std.specs.Prelude.{◌≡◌, ◌∷◌, [], ◌++◌, string_b
 ghost use Rattle.constraint_file_spec.specs.Keys.{key_name};
 ghost use Rattle.command_steps.specs.declared.status.CodeFault.TheVariants as faults;
 ghost use Rattle.command_steps.specs.StatusLine.{line_of_status};
-ghost use Rattle.command_steps.specs.FaultLines.{behind_spaces, line_of_constraint_fault, line_of_limit, line_of_code_fault};
+ghost use Rattle.command_steps.specs.FaultLines.{behind_spaces, line_of_constraint_fault, line_of_limit, line_of_code_fault, line_of_channel_fault, line_of_two_states, word_text};
 
-use crate::status::{CodeFault, Limit, Status};
+use crate::status::{ChannelFault, CodeFault, Limit, Status};
 use code_spec::Walk;
 use constraint_file_spec::{ConstraintFault, Key};
+use min_cover::TwoStates;
 use std::alloc::Global;
 use symbol_base::{ByteList, Name, NoMemory};
 
@@ -28,7 +29,10 @@ fn line_bytes(alloc: Global, status: &Status) -> Result<Vec<u8>, NoMemory>
         Status::FileTooLong(limit) => format!(in alloc; "file too long {limit}\n")?,
         Status::ConstraintRefused(fault) => return constraint_fault_line(alloc, fault),
         Status::TooLarge(limit) => limit_line(alloc, *limit)?,
+        Status::InfiniteMemory(two) => two_states_line(alloc, two)?,
+        Status::NoVector => String::from_str(alloc, "no vector\n")?,
         Status::CodeRefused(fault) => code_fault_line(alloc, fault)?,
+        Status::ChannelRefused(fault) => channel_fault_line(alloc, *fault)?,
         Status::NoMemory => String::from_str(alloc, "out of memory\n")?,
         Status::FileMissing(place) => format!(in alloc; "missing file: word {place}\n")?,
     };
@@ -84,8 +88,48 @@ fn limit_line(alloc: Global, limit: Limit) -> Result<String, NoMemory>
     let line = match limit {
         Limit::RawStates(count) => format!(in alloc; "too large: raw states {count}\n")?,
         Limit::CoverStates(count) => format!(in alloc; "too large: cover states {count}\n")?,
+        Limit::MemoryTooLong(count) => format!(in alloc; "too large: memory {count}\n")?,
+        Limit::PowerEdges(count) => format!(in alloc; "too large: power edges {count}\n")?,
+        Limit::Weight(sum) => format!(in alloc; "too large: weight {sum}\n")?,
+        Limit::Spread(sum) => format!(in alloc; "too large: spread {sum}\n")?,
     };
     Ok(line)
+}
+
+fn channel_fault_line(alloc: Global, fault: ChannelFault) -> Result<String, NoMemory>
+    ensures { IfOk result (λ line. string_bytes line ≡ line_of_channel_fault fault) }
+{
+    let line = match fault {
+        ChannelFault::BadSymbol(at) => format!(in alloc; "channel refused: bad symbol {at}\n")?,
+        ChannelFault::PartBlock(count) => format!(in alloc;
+            "channel refused: part block {count}\n"
+        )?,
+        ChannelFault::TooShort(count) => format!(in alloc; "channel refused: too short {count}\n")?,
+        ChannelFault::PartByte(count) => format!(in alloc; "channel refused: part byte {count}\n")?,
+    };
+    Ok(line)
+}
+
+/// The line of two states that read one word back to themselves.
+fn two_states_line(alloc: Global, two: &TwoStates) -> Result<String, NoMemory>
+    ensures { IfOk result (λ line. string_bytes line ≡ line_of_two_states two.now) }
+{
+    let first = two.first.index();
+    let second = two.second.index();
+    let mut line = format!(in alloc; "infinite memory: states {first} and {second} both read ")?;
+    write_word(two.word.as_slice(), &mut line)?;
+    line.push('\n')?;
+    Ok(line)
+}
+
+/// Writes the symbols of a word as decimal numbers, one behind the other.
+fn write_word(word: &[u8], text: &mut String) -> Result<(), NoMemory>
+    ensures { OnOk result (string_bytes text.new ≡ string_bytes text.old ++ word_text word.now) }
+{
+    for symbol in word {
+        write!(text, "{symbol}")?;
+    }
+    Ok(())
 }
 
 fn code_fault_line(alloc: Global, fault: &CodeFault) -> Result<String, NoMemory>

@@ -3,6 +3,7 @@ ghost use Rattle.command_steps.specs.StatusLine.{exit_status};
 
 use code_spec::Walk;
 use constraint_file_spec::ConstraintFault;
+use min_cover::TwoStates;
 use std::alloc::{AllocError, AllocFailed};
 use symbol_base::{NoMemory, WordList};
 
@@ -17,6 +18,19 @@ pub enum CodeFault {
     Ambiguous(Walk, Walk),
 }
 
+/// Why a channel text is refused.
+#[derive(Clone, Copy, Debug, PartialEq, Eq)]
+pub enum ChannelFault {
+    /// The offset of the first byte that is no digit of the alphabet, and isn't passed over.
+    BadSymbol(u64),
+    /// The count of symbols, which isn't a multiple of a block's.
+    PartBlock(u64),
+    /// The count of blocks, fewer than those of lead-in and lead-out.
+    TooShort(u64),
+    /// The count of data words between lead-in and lead-out, which no file is padded to.
+    PartByte(u64),
+}
+
 /// A counted number that is over its limit, with its value.
 #[derive(Clone, Copy, Debug, PartialEq, Eq)]
 pub enum Limit {
@@ -24,6 +38,14 @@ pub enum Limit {
     RawStates(u32),
     /// The states of the constraint's cover.
     CoverStates(u32),
+    /// The memory of the constraint, in symbols.
+    MemoryTooLong(u32),
+    /// The edges of the power of the cover.
+    PowerEdges(u64),
+    /// The weights of the states that a design begins with, together.
+    Weight(u64),
+    /// The weights of the targets of their edges, together.
+    Spread(u64),
 }
 
 /// How a command ended.
@@ -43,8 +65,15 @@ pub enum Status {
     ConstraintRefused(ConstraintFault),
     /// A counted number is over its limit.
     TooLarge(Limit),
+    /// The constraint has no finite memory: these two states of its cover read one word back to
+    /// themselves.
+    InfiniteMemory(TwoStates),
+    /// No approximate eigenvector is within the bound.
+    NoVector,
     /// The code file is refused.
     CodeRefused(CodeFault),
+    /// The channel text is refused.
+    ChannelRefused(ChannelFault),
     /// Memory was wanted and not found.
     NoMemory,
     /// An input file isn't there: the place of its name among the words, the command being word 0.
@@ -64,7 +93,10 @@ impl Status {
             Status::FileTooLong(_) => 4,
             Status::ConstraintRefused(_) => 5,
             Status::TooLarge(_) => 6,
+            Status::InfiniteMemory(_) => 7,
+            Status::NoVector => 8,
             Status::CodeRefused(_) => 9,
+            Status::ChannelRefused(_) => 10,
             Status::NoMemory => 13,
             Status::FileMissing(_) => 14,
         }

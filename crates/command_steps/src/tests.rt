@@ -1,11 +1,12 @@
 ghost use Rattle.std.specs.Prelude.{◌≡◌};
 
-use crate::{CodeFault, Limit, Status, status_line};
+use crate::{ChannelFault, CodeFault, Limit, Status, status_line};
 use code_spec::Walk;
 use constraint_file_spec::{ConstraintFault, Key};
+use min_cover::TwoStates;
 use std::alloc::Global;
 use std::test::Fail;
-use symbol_base::{ByteList, CodeName, Name, WordList};
+use symbol_base::{ByteList, CodeName, CoverName, Name, WordList};
 
 #[test]
 fn each_status_has_its_number_and_its_line(rt: HostRuntime) -> Result<(), Fail> {
@@ -36,6 +37,72 @@ fn each_status_has_its_number_and_its_line(rt: HostRuntime) -> Result<(), Fail> 
     assert!(rt;
         status_line(rt.alloc(), &missing)?.as_slice() == b"missing file: word 2\n".as_slice()
     );
+    Ok(())
+}
+
+#[test]
+fn a_refused_channel_is_told_by_its_line(rt: HostRuntime) -> Result<(), Fail> {
+    let table: [(ChannelFault, &[u8]); 4] = [
+        (
+            ChannelFault::BadSymbol(2),
+            b"channel refused: bad symbol 2\n",
+        ),
+        (
+            ChannelFault::PartBlock(4),
+            b"channel refused: part block 4\n",
+        ),
+        (ChannelFault::TooShort(1), b"channel refused: too short 1\n"),
+        (ChannelFault::PartByte(4), b"channel refused: part byte 4\n"),
+    ];
+    for (fault, line) in table {
+        let status = Status::ChannelRefused(fault);
+        assert_eq!(rt; status.number(), 10);
+        assert!(rt; status_line(rt.alloc(), &status)?.as_slice() == line);
+    }
+    Ok(())
+}
+
+#[test]
+fn a_limit_is_told_by_its_line(rt: HostRuntime) -> Result<(), Fail> {
+    let table: [(Limit, &[u8]); 4] = [
+        (Limit::MemoryTooLong(257), b"too large: memory 257\n"),
+        (
+            Limit::PowerEdges(524288),
+            b"too large: power edges 524288\n",
+        ),
+        (Limit::Weight(513), b"too large: weight 513\n"),
+        (Limit::Spread(262145), b"too large: spread 262145\n"),
+    ];
+    for (limit, line) in table {
+        let status = Status::TooLarge(limit);
+        assert_eq!(rt; status.number(), 6);
+        assert!(rt; status_line(rt.alloc(), &status)?.as_slice() == line);
+    }
+    Ok(())
+}
+
+#[test]
+fn why_there_is_no_design_is_told_by_its_line(rt: HostRuntime) -> Result<(), Fail> {
+    let alloc = rt.alloc();
+    let table: [(&[u8], &[u8]); 3] = [
+        (
+            b"\x01\x00",
+            b"infinite memory: states 1 and 3 both read 10\n",
+        ),
+        (b"\x02", b"infinite memory: states 1 and 3 both read 2\n"),
+        (b"", b"infinite memory: states 1 and 3 both read \n"),
+    ];
+    for (word, line) in table {
+        let status = Status::InfiniteMemory(TwoStates {
+            first: CoverName::at(1),
+            second: CoverName::at(3),
+            word: ByteList::copy(alloc, word)?,
+        });
+        assert_eq!(rt; status.number(), 7);
+        assert!(rt; status_line(alloc, &status)?.as_slice() == line);
+    }
+    assert_eq!(rt; Status::NoVector.number(), 8);
+    assert!(rt; status_line(alloc, &Status::NoVector)?.as_slice() == b"no vector\n".as_slice());
     Ok(())
 }
 

@@ -1,5 +1,9 @@
 pub mod WordOrder
 pub mod Unique
+pub mod EdgeOrder
 pub mod Ranks
 pub mod Renumbered
 pub mod Searching
+pub mod Sums
+pub mod KeptSums
+pub mod OneSink

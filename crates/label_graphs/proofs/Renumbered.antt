@@ -1,50 +1,28 @@
 -- Rows under new numbers: their edges, their order, and the graph that they make.
-use Rattle.std.proofs.Common.{◌≡◌, ℕ, zero, suc, ◌+◌, ◌<◌, List, [], ◌∷◌, ◌++◌, length, get_or, take, map, Bool, true, false, cond, inl, inr, refl, ap, sym, ◌∙◌, subst, arith}
+use Rattle.std.proofs.Common.{◌≡◌, ℕ, zero, suc, ◌+◌, ◌<◌, List, [], ◌∷◌, ◌++◌, length, get_or, map, Bool, true, false, cond, inl, inr, refl, ap, sym, ◌∙◌, subst, arith}
 use Rattle.std.specs.Global.{Vec}
 use Rattle.std.specs.Prelude.{filter, All, Contains, slice_index}
-use Rattle.std.proofs.lemmas.List.{get_or-map, length-map, map-append, take_more, append-nil}
-use Rattle.std.proofs.lemmas.List.Elements.{Contains-get_or, filter-append}
+use Rattle.std.proofs.lemmas.List.{get_or-map, length-map, map-append}
+use Rattle.std.proofs.lemmas.List.Elements.{Contains-get_or}
 use Rattle.symbol_base.specs.Ascending.{IsAscending}
-use Rattle.symbol_base.proofs.AscendingNumbers.{filter_keeps, filter_kept, first_or_rest}
+use Rattle.symbol_base.proofs.AscendingNumbers.{filter_keeps, filter_kept}
 use Rattle.label_graphs.specs.declared.graph.Edge.{Edge}
 use Rattle.label_graphs.specs.Graph.{EdgeData, IsEdgeBefore, HasEdge, IsGraph}
 use Rattle.label_graphs.specs.Views.{edge_data, rows_data}
 use Rattle.label_graphs.specs.Kept.{marked_states, IsKept}
 use Rattle.label_graphs.specs.inside.Numbers.{passing, rank, is_marked, renumbered, kept_rows}
+use Rattle.label_graphs.proofs.EdgeOrder.{first_before, rest_ascends, ascending_by}
 use Rattle.label_graphs.proofs.Ranks.{passing_more, passing_same, rank_most, rank_below, state_at, stands}
 
-edge_trans : (e f g : EdgeData) → IsEdgeBefore e f → IsEdgeBefore f g → IsEdgeBefore e g
-edge_trans e f g (inl a) (inl b) = inl (omega (arith, a, b))
-edge_trans e f g (inl a) (inr b) = inl (omega (arith, a, b.0))
-edge_trans e f g (inr a) (inl b) = inl (omega (arith, a.0, b))
-edge_trans e f g (inr a) (inr b) = inr (a.0 ∙ b.0, omega (arith, a.1, b.1))
-
--- the first edge of a row comes before each other one
-first_before : (e : EdgeData) (row : List EdgeData) → IsAscending IsEdgeBefore (e ∷ row) → (f : EdgeData) → Contains row f → IsEdgeBefore e f
-first_before e [] order f found = absurd (omega (arith, found.1))
-first_before e (g ∷ row) order f found = elim (first_or_rest g f row found) [
-  | inl same ↦ subst (λ (x : EdgeData). IsEdgeBefore e x) same order.0
-  | inr rest ↦ edge_trans e g f order.0 (first_before g row order.1 f rest)
-]
-
-rest_ascends : (e : EdgeData) (row : List EdgeData) → IsAscending IsEdgeBefore (e ∷ row) → IsAscending IsEdgeBefore row
-rest_ascends e [] order = tt
-rest_ascends e (f ∷ row) order = order.1
-
-ascending_by : (e : EdgeData) (row : List EdgeData) → ((f : EdgeData) → Contains row f → IsEdgeBefore e f) → IsAscending IsEdgeBefore row
-    → IsAscending IsEdgeBefore (e ∷ row)
-ascending_by e [] before order = tt
-ascending_by e (f ∷ row) before order = (before f (0, omega arith, refl), order)
-
 -- the edge under new numbers
-abbrev new_edge : (ℕ → Bool) → EdgeData → EdgeData
+abbrev pub new_edge : (ℕ → Bool) → EdgeData → EdgeData
 new_edge test e = record { block = e.block; to = rank test e.to }
 
-no_edge : EdgeData
+pub no_edge : EdgeData
 no_edge = record { block = 0; to = 0 }
 
 -- each edge under new numbers comes from one to a state that passes
-renumbered_from : (test : ℕ → Bool) (row : List EdgeData) (f : EdgeData) → Contains (renumbered test row) f
+pub renumbered_from : (test : ℕ → Bool) (row : List EdgeData) (f : EdgeData) → Contains (renumbered test row) f
     → (e : EdgeData) × Contains row e × (test e.to ≡ true) × (new_edge test e ≡ f)
 renumbered_from test row f found =
     let T : EdgeData → Bool = λ e. test e.to in
@@ -56,7 +34,7 @@ renumbered_from test row f found =
     (e, kept.0, kept.1, sym (get_or-map (new_edge test) passed found.0 no_edge f inside) ∙ found.2)
 
 -- and each such edge has one
-renumbered_has : (test : ℕ → Bool) (row : List EdgeData) (e : EdgeData) → Contains row e → test e.to ≡ true
+pub renumbered_has : (test : ℕ → Bool) (row : List EdgeData) (e : EdgeData) → Contains row e → test e.to ≡ true
     → Contains (renumbered test row) (new_edge test e)
 renumbered_has test row e there passes =
     let T : EdgeData → Bool = λ e. test e.to in
@@ -81,7 +59,7 @@ ascends_by test e row true passes before order =
 ascends_by test e row false fails before order = order
 
 -- they stand in order
-renumbered_ascends : (test : ℕ → Bool) (row : List EdgeData) → IsAscending IsEdgeBefore row → IsAscending IsEdgeBefore (renumbered test row)
+pub renumbered_ascends : (test : ℕ → Bool) (row : List EdgeData) → IsAscending IsEdgeBefore row → IsAscending IsEdgeBefore (renumbered test row)
 renumbered_ascends test [] order = tt
 renumbered_ascends test (e ∷ row) order =
     ascends_by test e row (test e.to) refl (first_before e row order) (renumbered_ascends test row (rest_ascends e row order))
@@ -110,7 +88,7 @@ kept_row : (test : ℕ → Bool) (graph : List (List EdgeData)) (n i : ℕ) (d :
     → get_or (kept_rows test graph n) i d ≡ renumbered test (get_or graph (get_or (passing test n) i 0) [])
 kept_row test graph n i d inside = get_or-map (λ state. renumbered test (get_or graph state [])) (passing test n) i 0 d inside
 
-target_of : (graph : List (List EdgeData)) (state block to : ℕ) → IsGraph graph → state < length graph → HasEdge graph state block to → to < length graph
+pub target_of : (graph : List (List EdgeData)) (state block to : ℕ) → IsGraph graph → state < length graph → HasEdge graph state block to → to < length graph
 target_of graph state block to known inside edge =
     let low = known.targets state [] inside edge.0 (record { block = block; to = to }) edge.1 in
     let same : (get_or (get_or graph state []) edge.0 (record { block = block; to = to })).to ≡ to = ap (λ (e : EdgeData). e.to) edge.2 in

@@ -3,4 +3,10 @@ pub mod Cover
 pub mod Views
 pub mod Reach
 pub mod Kept
+pub mod Memory
+pub mod Power
+pub mod Matrix
+pub mod Vector
+pub mod Sink
+pub mod Refinement
 pub mod inside

@@ -9,3 +9,6 @@ edge_data number e = record { block = e.block.value; to = number e.to }
 
 abbrev pub rows_data : {N : Type 0} → (N → ℕ) → List (Vec (Edge N)) → List (List EdgeData)
 rows_data number rows = map (λ row. map (edge_data number) row.items) rows
+
+abbrev pub matrix_data : List (Vec ℕ) → List (List ℕ)
+matrix_data rows = map (λ row. row.items) rows

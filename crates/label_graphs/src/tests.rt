@@ -1,9 +1,9 @@
 ghost use Rattle.std.specs.Prelude.{◌≡◌};
 
-use crate::{Edge, Graph, keep, reach};
+use crate::{Edge, Graph, Matrix, Refinement, Weights, keep, reach};
 use std::alloc::Global;
 use std::process::Abort;
-use symbol_base::{Block, Name, NoMemory, SplitName};
+use symbol_base::{Block, CoverName, Name, NoMemory, SplitName};
 
 fn edge(block: u64, to: u32) -> Edge<SplitName>
     ensures { result ≡ record { block = record { value = block }; to = to } }
@@ -103,5 +103,40 @@ fn kept_states_are_numbered_in_order(rt: HostRuntime) -> Result<(), NoMemory> {
         &[(0, 0, 0), (2, 2, 2)],
     )?;
     assert_kept(&rt, alloc, &[false, false, false, false, false], 0, &[])?;
+    Ok(())
+}
+
+#[test]
+fn a_matrix_gives_its_entries(rt: HostRuntime) -> Result<(), NoMemory> {
+    let alloc = rt.alloc();
+    let first = vec![in alloc; 3, 4]?;
+    let second = vec![in alloc; 5, 1 << 40]?;
+    let matrix = Matrix::from_rows(vec![in alloc; first, second]?);
+    assert_eq!(rt; matrix.size(), 2);
+    assert_eq!(rt; matrix.entry(0, 1), 4);
+    assert_eq!(rt; matrix.entry(1, 0), 5);
+    assert_eq!(rt; matrix.row(1), [5, 1 << 40].as_slice());
+    Ok(())
+}
+
+#[test]
+fn weights_give_their_numbers_and_their_total(rt: HostRuntime) -> Result<(), NoMemory> {
+    let alloc = rt.alloc();
+    let weights = Weights::from_list(vec![in alloc; 2, 0, u32::MAX]?);
+    assert_eq!(rt; weights.len(), 3);
+    assert_eq!(rt; weights.at(0), 2);
+    assert_eq!(rt; weights.at(2), u32::MAX);
+    assert_eq!(rt; weights.total(), 4_294_967_297);
+    Ok(())
+}
+
+#[test]
+fn a_refinement_gives_the_parents(rt: HostRuntime) -> Result<(), NoMemory> {
+    let alloc = rt.alloc();
+    let parents = vec![in alloc; CoverName::at(4), CoverName::at(2), CoverName::at(4)]?;
+    let refinement: Refinement<SplitName, CoverName> = Refinement::from_parents(parents);
+    assert_eq!(rt; refinement.len(), 3);
+    assert_eq!(rt; refinement.parent(SplitName::at(1)).index(), 2);
+    assert_eq!(rt; refinement.parent(SplitName::at(2)).index(), 4);
     Ok(())
 }

@@ -17,3 +17,8 @@ pub mod Rounds
 pub mod GraphRows
 pub mod Pigeons
 pub mod Whole
+pub mod CoverMemory
+pub mod PairLaws
+pub mod Searched
+pub mod PairWalks
+pub mod MemoryOnce

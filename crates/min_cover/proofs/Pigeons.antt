@@ -16,7 +16,7 @@ use Rattle.min_cover.proofs.SearchSteps.{reads-inside}
 use Rattle.min_cover.proofs.RawReading.{read-words, read-state}
 
 -- n + 1 different numbers are not all below n
-pigeons : (n : ℕ) (f : ℕ → ℕ) → ((i : ℕ) → i < suc n → f i < n) → ((i j : ℕ) → i < j → j < suc n → f i ≢ f j) → ⊥
+pub pigeons : (n : ℕ) (f : ℕ → ℕ) → ((i : ℕ) → i < suc n → f i < n) → ((i j : ℕ) → i < j → j < suc n → f i ≢ f j) → ⊥
 pigeons zero f inside different = let none = inside 0 (omega arith) in omega (arith, none)
 pigeons (suc n) f inside different =
     let last = f (suc n) in

@@ -6,3 +6,6 @@ pub mod States
 pub mod Found
 pub mod Classes
 pub mod Rows
+pub mod Pairs
+pub mod Finishing
+pub mod Order

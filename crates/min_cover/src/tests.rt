@@ -15,7 +15,7 @@ const LONGEST: usize = 10;
 /// An edge of a cover: its state, its symbol and its target.
 type CoverEdge = (u32, u64, u32);
 
-fn edge(from: u32, label: u8, to: u32) -> GraphEdge
+pub fn edge(from: u32, label: u8, to: u32) -> GraphEdge
     ensures { result ≡ record { from = from; label = label; to = to } }
 {
     GraphEdge { from, label, to }
@@ -51,7 +51,7 @@ fn comes_before(first: GraphEdge, second: GraphEdge) -> bool
 }
 
 /// The words of a graph on two symbols that have no longer run of 0s than k.
-fn of_graph(
+pub fn of_graph(
     rt: &impl Abort,
     alloc: Global,
     k: Option<u32>,
@@ -358,7 +358,7 @@ fn words_of_the_cover_are_those_of_the_constraint(rt: HostRuntime) -> Result<(),
 }
 
 /// The edges of a path of 0s through so many states.
-fn path_of_zeros(alloc: Global, states: u8) -> Result<Vec<GraphEdge>, NoMemory> {
+pub fn path_of_zeros(alloc: Global, states: u8) -> Result<Vec<GraphEdge>, NoMemory> {
     let mut edges = Vec::new(alloc);
     for from in 0..u32::from(states) {
         edges.push(edge(from, 0, from + 1))?;

@@ -19,7 +19,7 @@ use Rattle.command_steps.proofs.EndLaws.{done_leaves_output}
 use Rattle.workbench.specs.CheckedCodes.{CheckedAt}
 use Rattle.workbench.specs.Inputs.{CodeAt}
 use Rattle.workbench.specs.Encode.{blocks_line, encode_row}
-use Rattle.workbench.specs.Forms.{Form, check, explain, encode, output_of}
+use Rattle.workbench.specs.Forms.{Form, check, explain, encode, decode, output_of}
 use Rattle.workbench.specs.Rows.{row_of}
 use Rattle.workbench.specs.Channel.{IsTextOfWord, HasTextOfWord, KeepsConstraint}
 
@@ -68,6 +68,7 @@ text_written code source text old new answer (Some files) seen at written =
 pub keeps_constraint : (form : Form) (old new : Seen) (before after : Said) (status : Status) → Ends (row_of form) (output_of form) old new before after status → KeepsConstraint form old.files new.files status
 keeps_constraint (check code) old new before after status ends = tt
 keeps_constraint (explain constraint p q bound) old new before after status ends = tt
+keeps_constraint (decode code text target) old new before after status ends = tt
 keeps_constraint (encode code source text) old new before after status ends = λ done.
     let left = done_leaves_output (encode_row code source) text old new before after status ends done in
     text_written code source text old new left.0 old.files refl left.1 left.2

@@ -3,5 +3,7 @@ pub mod CheckLaws
 pub mod CodeLaws
 pub mod ConstraintLaws
 pub mod CoverLaws
+pub mod MemoryLaws
 pub mod RowLaws
 pub mod TextLaws
+pub mod DecodeLaws

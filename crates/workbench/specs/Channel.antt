@@ -6,7 +6,7 @@ use Rattle.code_spec.specs.Code.{CodeData}
 use Rattle.code_text_spec.specs.CodeText.{IsCodeText}
 use Rattle.command_steps.specs.declared.status.Status.{Status}
 use Rattle.command_steps.specs.declared.status.Status.TheVariants.{Done}
-use Rattle.workbench.specs.Forms.{Form, check, explain, encode}
+use Rattle.workbench.specs.Forms.{Form, check, explain, encode, decode}
 
 -- the digits of a word of the constraint, and a line feed
 pub record IsTextOfWord (c : ConstraintData) (text : List ℕ) : Type 0 where
@@ -24,4 +24,5 @@ HasTextOfWord code text old new =
 abbrev pub KeepsConstraint : Form → Option Files → Option Files → Status → Type 0
 KeepsConstraint (check code) old new status = Unit {0}
 KeepsConstraint (explain constraint p q bound) old new status = Unit {0}
+KeepsConstraint (decode code text target) old new status = Unit {0}
 KeepsConstraint (encode code source text) old new status = status ≡ Done → HasTextOfWord code text old new

@@ -1,5 +1,5 @@
 -- The forms of the command line: a constructor for each command, with its names and numbers.
-use Rattle.std.specs.Prelude.{ℕ, List, [], ◌∷◌, Option, Some, None, codes, nat_le, not, ◌&&◌, if◌then◌else◌}
+use Rattle.std.specs.Prelude.{ℕ, List, [], ◌∷◌, Option, Some, None, codes, nat_le, ◌&&◌, ◌||◌, if◌then◌else◌}
 use Rattle.std.specs.Str.{bytes_eq}
 use Rattle.text_reading.specs.Reading.{◌>>=◌, number_in}
 
@@ -7,6 +7,7 @@ pub data Form : Type 0 where
   check : (code : List ℕ) → Form
   explain : (constraint : List ℕ) (p q bound : ℕ) → Form
   encode : (code source text : List ℕ) → Form
+  decode : (code text target : List ℕ) → Form
 
 -- the number that a word spells, where it is from least to most
 abbrev pub number_within : ℕ → ℕ → List ℕ → Option ℕ
@@ -22,13 +23,18 @@ explain_form constraint p q bound = do
   bound ← number_within 1 64 bound
   Some (explain constraint p q bound)
 
--- `check CODE`; `encode CODE DATA TEXT`, where the text's name is none of the others; and `explain`
+-- the commands that make the last of three files of the others, whose name is neither of theirs
+unfoldable pub three_files_form : List ℕ → List ℕ → List ℕ → List ℕ → Option Form
+three_files_form command code source target =
+    if bytes_eq target code || bytes_eq target source then None
+    else if bytes_eq command (codes "encode") then Some (encode code source target)
+    else if bytes_eq command (codes "decode") then Some (decode code source target)
+    else None
+
+-- `check CODE`; `encode CODE DATA TEXT` and `decode CODE TEXT DATA`; and `explain`
 abbrev pub form_of : List (List ℕ) → Option Form
 form_of (command ∷ code ∷ []) = if bytes_eq command (codes "check") then Some (check code) else None
-form_of (command ∷ code ∷ source ∷ text ∷ []) =
-    if bytes_eq command (codes "encode") && not (bytes_eq text code) && not (bytes_eq text source)
-    then Some (encode code source text)
-    else None
+form_of (command ∷ code ∷ source ∷ target ∷ []) = three_files_form command code source target
 form_of (command ∷ constraint ∷ p ∷ q ∷ bound ∷ []) =
     if bytes_eq command (codes "explain") then explain_form constraint p q bound else None
 form_of words = None
@@ -38,3 +44,4 @@ abbrev pub output_of : Form → List ℕ
 output_of (check code) = []
 output_of (explain constraint p q bound) = []
 output_of (encode code source text) = text
+output_of (decode code text target) = target

@@ -2,9 +2,11 @@ pub mod Limits
 pub mod Forms
 pub mod Inputs
 pub mod Covers
+pub mod Memories
 pub mod CheckedCodes
 pub mod Explain
 pub mod Check
+pub mod Decode
 pub mod Encode
 pub mod TextPlan
 pub mod Rows

@@ -1,5 +1,5 @@
 ghost use Rattle.std.specs.Prelude.{◌≡◌, map, string_bytes, option_map};
-ghost use Rattle.workbench.specs.Forms.{number_within, explain_form, form_of};
+ghost use Rattle.workbench.specs.Forms.{number_within, explain_form, three_files_form, form_of};
 ghost use Rattle.workbench.specs.Views.{form_seen};
 
 use text_reading::number_in;
@@ -13,6 +13,8 @@ pub enum Command<'a> {
     Explain(&'a str, u64, u64, u64),
     /// The code file, the data file and the text file.
     Encode(&'a str, &'a str, &'a str),
+    /// The code file, the text file and the data file.
+    Decode(&'a str, &'a str, &'a str),
 }
 
 /// The command whose form the words are.
@@ -21,17 +23,41 @@ pub fn command_of(words: &[String]) -> Option<Command<'_>>
 {
     match words {
         [command, code] if command.as_str() == "check" => Some(Command::Check(code.as_str())),
-        [command, code, source, text]
-            if command.as_str() == "encode"
-                && text.as_str() != code.as_str()
-                && text.as_str() != source.as_str() => {
-            Some(Command::Encode(code.as_str(), source.as_str(), text.as_str()))
+        [command, code, source, target] => {
+            three_files_command(
+                command.as_str(),
+                code.as_str(),
+                source.as_str(),
+                target.as_str(),
+            )
         }
         [command, constraint, p, q, bound] if command.as_str() == "explain" => {
             explain_command(constraint.as_str(), p.as_str(), q.as_str(), bound.as_str())
         }
         _ => None,
     }
+}
+
+/// A command that makes the last of three files of the others.
+#[tactic(auto, unfolding(crate::specs::Forms::three_files_form))]
+fn three_files_command<'a>(
+    command: &str,
+    code: &'a str,
+    source: &'a str,
+    target: &'a str,
+) -> Option<Command<'a>>
+    ensures { option_map form_seen result ≡ three_files_form command.now code.now source.now target.now }
+{
+    if target == code || target == source {
+        return None;
+    }
+    if command == "encode" {
+        return Some(Command::Encode(code, source, target));
+    }
+    if command == "decode" {
+        return Some(Command::Decode(code, source, target));
+    }
+    None
 }
 
 #[tactic(auto, unfolding(crate::specs::Forms::explain_form))]

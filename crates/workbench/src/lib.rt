@@ -6,6 +6,7 @@ mod check;
 mod code_file;
 mod command;
 mod constraint_file;
+mod decode;
 mod encode;
 mod explain;
 #[cfg(test)]
@@ -14,6 +15,6 @@ mod top;
 
 pub use arguments::{end_with, run_arguments};
 pub use code_spec::Walk;
-pub use command_steps::{CodeFault, Limit, Status, status_line};
+pub use command_steps::{ChannelFault, CodeFault, Limit, Status, status_line};
 pub use constraint_file_spec::{ConstraintFault, Key};
 pub use top::run;

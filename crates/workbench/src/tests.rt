@@ -1,11 +1,14 @@
 ghost use Rattle.std.specs.Prelude.{◌≡◌, ◌≤◌};
 
-use crate::{CodeFault, ConstraintFault, Key, Status, Walk, run, run_arguments, status_line};
+use crate::{
+    ChannelFault, CodeFault, ConstraintFault, Key, Status, Walk, run, run_arguments, status_line,
+};
+use min_cover::TwoStates;
 use shelf_io::{FailingShelf, MemoryShelf, MemorySink, Shelf};
 use std::alloc::Global;
 use std::process::Abort;
 use std::test::Fail;
-use symbol_base::{ByteList, CodeName, Name, WordList};
+use symbol_base::{ByteList, CodeName, CoverName, Name, WordList};
 
 /// No two 0s in a row, three symbols for two bits, three states.
 const NO_TWO_ZEROS: &[u8] =
@@ -43,9 +46,15 @@ const IDENTITY: &[u8] =
 const ONE_BLOCK_FOR_TWO_WORDS: &[u8] =
     b"modcode 1\nalphabet 2\nd 0\nk -\nforbid 0\ngraph 0 0\nrate 1 1\nwindow 0 0\nstates 1\n0 0 0 0\n0 1 0 0\n";
 
+/// Three bits as they are, which don't fill a byte.
+const THREE_BITS: &[u8] =
+    b"modcode 1\nalphabet 2\nd 0\nk -\nforbid 0\ngraph 0 0\nrate 3 3\nwindow 0 0\nstates 1\n0 0 000 0\n0 1 001 0\n0 2 010 0\n0 3 011 0\n0 4 100 0\n0 5 101 0\n0 6 110 0\n0 7 111 0\n";
+
 const CHECK: &[&str] = &["check", "code"];
 
 const ENCODE: &[&str] = &["encode", "code", "data", "text"];
+
+const DECODE: &[&str] = &["decode", "code", "text", "data"];
 
 const EXPLAIN: &[&str] = &["explain", "constraint", "2", "3", "2"];
 
@@ -122,6 +131,84 @@ fn a_file_is_encoded(rt: HostRuntime) -> Result<(), Fail> {
     ];
     for (code, file, text, printed) in &table {
         encoded(&rt, rt.alloc(), code, file, text, printed)?;
+    }
+    Ok(())
+}
+
+/// A shelf with a code file `code` and a text file `text`.
+fn code_and_text(alloc: Global, code: &[u8], text: &[u8]) -> Result<MemoryShelf, Fail> {
+    let mut shelf = MemoryShelf::new(alloc);
+    shelf.add("code", code)?;
+    shelf.add("text", text)?;
+    Ok(shelf)
+}
+
+fn decoded(
+    rt: &impl Abort,
+    alloc: Global,
+    code: &[u8],
+    text: &[u8],
+    file: &[u8],
+    printed: &[u8],
+) -> Result<(), Fail> {
+    let mut shelf = code_and_text(alloc, code, text)?;
+    let mut out = MemorySink::new(alloc, Vec::new(alloc));
+    let words = words(alloc, DECODE)?;
+    let ended = run(alloc, words.as_slice(), &mut shelf, &mut out);
+    assert!(rt; ended == Status::Done);
+    assert!(rt; shelf.file("data") == Some(file));
+    assert!(rt; out.text() == printed);
+    Ok(())
+}
+
+#[test]
+fn a_text_is_decoded(rt: HostRuntime) -> Result<(), Fail> {
+    let table: [(&[u8], &[u8], &[u8], &[u8]); 7] = [
+        (NO_TWO_ZEROS, b"010111110101011101\n", b"\x1b", b"bytes 1\n"),
+        (NO_TWO_ZEROS, b"110111110101011101\n", b"\x1b", b"bytes 1\n"),
+        (
+            NO_TWO_ZEROS,
+            b"010 111 110 101 011 101 \n",
+            b"\x1b",
+            b"bytes 1\n",
+        ),
+        (
+            NO_TWO_ZEROS,
+            b"\r\n01 0\r1 11110\n1010 11 101",
+            b"\x1b",
+            b"bytes 1\n",
+        ),
+        (NO_TWO_ZEROS, b"010111\n", b"", b"bytes 0\n"),
+        (MFM, b"10100100010100101001\n", b"\xb1", b"bytes 1\n"),
+        (THREE_BITS, b"111111110\n", b"\xff", b"bytes 1\n"),
+    ];
+    for (code, text, file, printed) in &table {
+        decoded(&rt, rt.alloc(), code, text, file, printed)?;
+    }
+    Ok(())
+}
+
+#[test]
+fn a_refused_text_leaves_no_data(rt: HostRuntime) -> Result<(), Fail> {
+    let alloc = rt.alloc();
+    let table: [(&[u8], &[u8], ChannelFault); 6] = [
+        (THREE_BITS, b"111111110111", ChannelFault::PartByte(4)),
+        (THREE_BITS, b"1111", ChannelFault::PartBlock(4)),
+        (THREE_BITS, b"11x", ChannelFault::BadSymbol(2)),
+        (THREE_BITS, b"1 \x00", ChannelFault::BadSymbol(2)),
+        (NO_TWO_ZEROS, b"010", ChannelFault::TooShort(1)),
+        (NO_TWO_ZEROS, b"\n\n", ChannelFault::TooShort(0)),
+    ];
+    for (code, text, fault) in table {
+        let mut shelf = code_and_text(alloc, code, text)?;
+        refused(
+            &rt,
+            alloc,
+            &mut shelf,
+            DECODE,
+            Status::ChannelRefused(fault),
+        )?;
+        assert!(rt; shelf.file("data").is_none());
     }
     Ok(())
 }
@@ -205,23 +292,41 @@ fn one_word(alloc: Global, word: u32) -> Result<Walk, Fail> {
 }
 
 #[test]
-fn a_constraint_is_explained_by_its_cover(rt: HostRuntime) -> Result<(), Fail> {
+fn a_constraint_is_explained_by_its_cover_and_memory(rt: HostRuntime) -> Result<(), Fail> {
     let table: [(&[u8], &[u8]); 4] = [
-        (b"", b"cover 1\n0 0 0\n0 1 0\n"),
-        (b"d = 0\nk = 1\n", b"cover 2\n0 0 1\n0 1 0\n1 1 0\n"),
+        (b"", b"cover 1\n0 0 0\n0 1 0\nmemory 0\n"),
+        (
+            b"d = 0\nk = 1\n",
+            b"cover 2\n0 0 1\n0 1 0\n1 1 0\nmemory 1\n",
+        ),
         (
             b"d = 1\nk = 3\n",
-            b"cover 5\n0 0 1\n0 1 2\n1 0 3\n1 1 2\n2 0 1\n3 0 4\n3 1 2\n4 1 2\n",
+            b"cover 5\n0 0 1\n0 1 2\n1 0 3\n1 1 2\n2 0 1\n3 0 4\n3 1 2\n4 1 2\nmemory 3\n",
         ),
         (
             b"alphabet = 2\nd = 0\nk = 3\nforbid = [\"11\"]\n[[edge]]\nfrom = \"A\"\nlabel = \"0\"\nto = \"A\"\n",
-            b"cover 4\n0 0 1\n1 0 2\n2 0 3\n",
+            b"cover 4\n0 0 1\n1 0 2\n2 0 3\nmemory 3\n",
         ),
     ];
     for (file, text) in table {
         printed(&rt, rt.alloc(), ("constraint", file), EXPLAIN, text)?;
     }
     Ok(())
+}
+
+#[test]
+fn two_states_that_read_a_word_back_are_told(rt: HostRuntime) -> Result<(), Fail> {
+    let alloc = rt.alloc();
+    let file =
+        b"[[edge]]\nfrom = \"A\"\nlabel = \"1\"\nto = \"B\"\n[[edge]]\nfrom = \"B\"\nlabel = \"1\"\nto = \"C\"\n[[edge]]\nfrom = \"C\"\nlabel = \"0\"\nto = \"B\"\n[[edge]]\nfrom = \"B\"\nlabel = \"0\"\nto = \"A\"\n";
+    let mut shelf = MemoryShelf::new(alloc);
+    shelf.add("constraint", file)?;
+    let status = Status::InfiniteMemory(TwoStates {
+        first: CoverName::at(1),
+        second: CoverName::at(3),
+        word: ByteList::copy(alloc, &[1, 0])?,
+    });
+    refused(&rt, alloc, &mut shelf, EXPLAIN, status)
 }
 
 #[test]
@@ -298,7 +403,7 @@ fn other_words_are_no_form(rt: HostRuntime) -> Result<(), Fail> {
         &["design", "code", "2", "3", "1"],
         &["encode", "code", "data"],
         &["encode", "code", "data", "text", "more"],
-        &["decode", "code", "data", "text"],
+        &["decode", "code", "text", "text"],
         &["encode", "code", "data", "code"],
         &["encode", "code", "data", "data"],
     ];

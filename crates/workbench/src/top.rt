@@ -12,6 +12,7 @@ ghost use Rattle.workbench.specs.Views.{form_seen};
 
 use crate::check::check;
 use crate::command::{Command, command_of};
+use crate::decode::decode;
 use crate::encode::plan_text;
 use crate::explain::explain;
 use command_steps::{Status, deliver, print_all, print_line};
@@ -21,7 +22,8 @@ use std::alloc::Global;
 /// Does what the program's words ask for over a shelf of files, and answers how it ended.
 ///
 /// `encode CODE DATA TEXT` reads a code file and a data file, writes the plain channel text of the data
-/// under the code, and prints how many blocks it has. After a status other than `Done` and `SinkFault` the
+/// under the code, and prints how many blocks it has; `decode CODE TEXT DATA` writes the data file of a plain
+/// channel text, and prints how many bytes it has. After a status other than `Done` and `SinkFault` the
 /// line of the status is printed.
 ///
 /// The file that is written is the last name's alone. After a fault of the shelf it may be a front of
@@ -108,6 +110,10 @@ fn shelve<F: Shelf>(alloc: Global, shelf: &mut F, command: &Command<'_>) -> Resu
         Command::Encode(code, source, text) => {
             let plan = plan_text(alloc, shelf, code, source)?;
             plan.write(shelf, text)
+        }
+        Command::Decode(code, text, target) => {
+            let reply = decode(alloc, shelf, code, text)?;
+            deliver(shelf, target, reply)
         }
     }
 }

@@ -1,0 +1,148 @@
+ghost use Rattle.std.specs.Prelude.{◌≡◌, ℕ, ◌+◌, ◌^◌, ◌<◌, ◌≤◌, false, List, [], ◌∷◌, ◌++◌, length, vec_len, vec_capacity, IfOk, IfSome, IsTrue};
+ghost use Rattle.code_spec.specs.Code.{IsCode};
+ghost use Rattle.code_spec.specs.PlainReading.{is_blank};
+ghost use Rattle.block_codec.specs.inside.Readers.{IsReaderFor, HasSymbols, HasText, GoesOn, TakesPiece, IsFrontOf, IsBadByte, listed};
+
+use crate::block_decoder::BlockDecoder;
+use crate::part::Part;
+use code_model::Code;
+use std::alloc::Global;
+use symbol_base::{Block, NoMemory};
+
+/// A reader of symbols: of the blocks that they fill, the data words of these, and the bytes that those fill.
+#[derive(Debug, Drop)]
+pub(crate) struct Reader {
+    blocks: BlockDecoder,
+    symbols: Part,
+    bits: Part,
+    count: u64,
+}
+
+impl Reader {
+    /// A reader to which nothing has come.
+    pub(crate) fn new(alloc: Global, code: &Code) -> Result<Reader, NoMemory>
+        requires table { IsCode code.now }
+        ensures code { IfOk result (IsReaderFor code.now) }
+        ensures text { IfOk result (HasText code.now [] []) }
+        ensures none { IfOk result (λ reader. reader.count ≡ 0) }
+    {
+        Ok(Reader {
+            blocks: BlockDecoder::for_code(alloc, code)?,
+            symbols: Part::none(),
+            bits: Part::none(),
+            count: 0,
+        })
+    }
+
+    /// How many symbols have come.
+    pub(crate) fn count(&self) -> u64
+        ensures { result ≡ self.now.count }
+    {
+        self.count
+    }
+
+    /// Takes a symbol, and answers the byte that it fills, if any.
+    #[inline]
+    fn take_symbol(&mut self, code: &Code, symbol: u32) -> Option<u32>
+        requires code { IsReaderFor code.now self.old }
+        requires symbol { symbol < 2 }
+        ensures code { IsReaderFor code.now self.new }
+        ensures count { self.new.count ≡ self.old.count }
+        ensures small { IfSome result (λ byte. byte < 256) }
+        ensures symbols { (symbols bytes : List ℕ) → HasSymbols code.now symbols bytes self.old
+            → HasSymbols code.now (symbols ++ symbol ∷ []) (bytes ++ listed result) self.new }
+    {
+        let whole = self.symbols.add(symbol, 1, code.q)?;
+        let block = Block {
+            value: u64::from(whole),
+        };
+        let word = self.blocks.take_block(code, block)?;
+        self.bits.add(word, code.p, 8)
+    }
+
+    /// Takes the digit of a symbol, and puts the byte that it fills behind the others.
+    #[inline]
+    fn take_digit(&mut self, code: &Code, symbol: u32, out: &mut Vec<u8>)
+        requires table { IsCode code.now }
+        requires code { IsReaderFor code.now self.old }
+        requires symbol { symbol < 2 }
+        requires room { vec_len out.old < vec_capacity out.old }
+        requires few { self.old.count < 2 ^ 63 }
+        ensures code { IsReaderFor code.now self.new }
+        ensures count { self.new.count ≤ self.old.count + 1 }
+        ensures len { vec_len out.new ≤ vec_len out.old + 1 }
+        ensures capacity { vec_capacity out.new ≡ vec_capacity out.old }
+        ensures front { IsFrontOf out.old.items out.new.items }
+        ensures text { (text bytes : List ℕ) → HasText code.now text bytes self.old
+            → GoesOn code.now text bytes ((48 + symbol) ∷ []) out.old.items out.new.items self.new }
+    {
+        self.count += 1;
+        if let Some(byte) = self.take_symbol(code, symbol) {
+            out.push_reserved(byte as u8);
+        }
+    }
+
+    /// Takes a byte of a text, where it is a digit or passed over.
+    #[inline]
+    fn take_byte(&mut self, code: &Code, byte: u8, out: &mut Vec<u8>) -> bool
+        requires table { IsCode code.now }
+        requires code { IsReaderFor code.now self.old }
+        requires room { vec_len out.old < vec_capacity out.old }
+        requires few { self.old.count < 2 ^ 63 }
+        ensures code { IsReaderFor code.now self.new }
+        ensures count { self.new.count ≤ self.old.count + 1 }
+        ensures len { vec_len out.new ≤ vec_len out.old + 1 }
+        ensures capacity { vec_capacity out.new ≡ vec_capacity out.old }
+        ensures front { IsFrontOf out.old.items out.new.items }
+        ensures text { IsTrue result → (text bytes : List ℕ) → HasText code.now text bytes self.old
+            → GoesOn code.now text bytes (byte ∷ []) out.old.items out.new.items self.new }
+        ensures bad { result ≡ false → IsBadByte code.now byte }
+    {
+        if is_blank(byte) {
+            return true;
+        }
+        if byte < b'0' {
+            return false;
+        }
+        if byte > b'1' {
+            return false;
+        }
+        self.take_digit(code, u32::from(byte - b'0'), out);
+        true
+    }
+
+    /// Takes a piece of a text up to its first byte that is neither a digit nor passed over, and
+    /// answers where that stands.
+    pub(crate) fn take_piece(
+        &mut self,
+        code: &Code,
+        piece: &[u8],
+        out: &mut Vec<u8>,
+    ) -> Option<usize>
+        requires table { IsCode code.now }
+        requires code { IsReaderFor code.now self.old }
+        requires room { vec_len out.old + length piece.now ≤ vec_capacity out.old }
+        requires few { self.old.count + length piece.now < 2 ^ 63 }
+        ensures code { IsReaderFor code.now self.new }
+        ensures count { self.new.count ≤ self.old.count + length piece.now }
+        ensures place { IfSome result (λ at. at < length piece.now) }
+        ensures front { IsFrontOf out.old.items out.new.items }
+        ensures text { (text bytes : List ℕ) → HasText code.now text bytes self.old
+            → TakesPiece code.now text bytes piece.now out.old.items out.new.items self.new result }
+    {
+        for i in 0..piece.len() {
+            if !self.take_byte(code, piece[i], out) {
+                return Some(i);
+            }
+        }
+        None
+    }
+}
+
+/// Whether a byte is a line feed, a carriage return or a space.
+#[inline]
+fn is_blank(byte: u8) -> bool
+    ensures { result ≡ is_blank byte }
+{
+    byte == b'\n' || byte == b'\r' || byte == b' '
+}

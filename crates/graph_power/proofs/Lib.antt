@@ -1,0 +1,5 @@
+pub mod Totals
+pub mod Listed
+pub mod Ordered
+pub mod WholePower
+pub mod Steps

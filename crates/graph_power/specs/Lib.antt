@@ -1,0 +1,3 @@
+pub mod PowerFault
+pub mod inside
+pub use Rattle.label_graphs.specs.Power
