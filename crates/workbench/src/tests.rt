@@ -365,7 +365,13 @@ fn a_constraint_file_of_one_byte_more_than_1_mib_is_too_long(rt: HostRuntime) ->
         Status::FileTooLong(1048576),
     )?;
     let blank = ("constraint", &long.as_slice()[1..]);
-    printed(&rt, alloc, blank, EXPLAIN, b"cover 1\n0 0 0\n0 1 0\n")
+    printed(
+        &rt,
+        alloc,
+        blank,
+        EXPLAIN,
+        b"cover 1\n0 0 0\n0 1 0\nmemory 0\n",
+    )
 }
 
 #[test]
