@@ -1,3 +1,4 @@
+pub mod AnswerLaws
 pub mod Comings
 pub mod CountLaws
 pub mod DigitLaws

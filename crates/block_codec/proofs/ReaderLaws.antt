@@ -16,10 +16,11 @@ use Rattle.code_spec.specs.PlainReading.{is_blank, marks_in, IsDigit, symbols_in
 use Rattle.code_spec.proofs.OutputLaws.{flat-append}
 use Rattle.code_spec.proofs.ReadBack.{not_blank}
 use Rattle.code_spec.proofs.ReadingLaws.{text_parts}
-use Rattle.block_codec.specs.declared.block_decoder.BlockDecoder.{BlockDecoder}
+use Rattle.block_codec.specs.declared.window_decoder.WindowDecoder.{WindowDecoder}
 use Rattle.block_codec.specs.declared.part.Part.{Part}
-use Rattle.block_codec.specs.Decoding.{block_of, HasCome, IsAnswer}
+use Rattle.block_codec.specs.Decoding.{block_of, IsAnswer}
 use Rattle.block_codec.specs.inside.Parts.{IsPart, Holds, TakesOut, Regroups}
+use Rattle.block_codec.specs.inside.WindowDecoding.{HaveCome}
 use Rattle.block_codec.specs.inside.Readers.{HoldsBits, HasDecoded, HasSymbols, HasText, GoesOn, StopsAt, IsFrontOf, IsBadByte, listed}
 use Rattle.block_codec.specs.declared.reader.Reader.{Reader}
 
@@ -130,8 +131,8 @@ decoded_more c blocks block words word long answer before =
 -- ---- a block that comes
 
 -- a block that gives no word
-pub block_alone : (c : CodeData) (blocks : List Block) (block : Block) (bytes : List ℕ) (old new : BlockDecoder) (part : Part) → HasDecoded c blocks bytes old part
-    → HasCome c new (blocks ++ block ∷ []) → IsAnswer c (blocks ++ block ∷ []) None → HasDecoded c (blocks ++ block ∷ []) bytes new part
+pub block_alone : (c : CodeData) (blocks : List Block) (block : Block) (bytes : List ℕ) (old new : WindowDecoder) (part : Part) → HasDecoded c blocks bytes old part
+    → HaveCome c new (blocks ++ block ∷ []) → IsAnswer c (blocks ++ block ∷ []) None → HasDecoded c (blocks ++ block ∷ []) bytes new part
 block_alone c blocks block bytes old new part before came none = record {
   came = came;
   words = before.words;
@@ -140,8 +141,8 @@ block_alone c blocks block bytes old new part before came none = record {
 }
 
 -- a block that gives a word
-pub block_decoded : (c : CodeData) (blocks : List Block) (block : Block) (bytes : List ℕ) (old new : BlockDecoder) (part later : Part) (word : ℕ) (result : Option ℕ) → IsPart 8 later
-    → HasDecoded c blocks bytes old part → HasCome c new (blocks ++ block ∷ []) → IsAnswer c (blocks ++ block ∷ []) (Some word)
+pub block_decoded : (c : CodeData) (blocks : List Block) (block : Block) (bytes : List ℕ) (old new : WindowDecoder) (part later : Part) (word : ℕ) (result : Option ℕ) → IsPart 8 later
+    → HasDecoded c blocks bytes old part → HaveCome c new (blocks ++ block ∷ []) → IsAnswer c (blocks ++ block ∷ []) (Some word)
     → ((held : List ℕ) → Holds part held → Regroups 8 (held ++ symbols_of 2 c.p word) later result)
     → HasDecoded c (blocks ++ block ∷ []) (bytes ++ listed result) new later
 block_decoded c blocks block bytes old new part later word result short before came answer more = record {
@@ -293,7 +294,7 @@ stops c text bytes piece old new at reader inside bad before =
 pub part_of_more : (size : ℕ) (part : Part) → 1 ≤ size → IsPart 1 part → IsPart size part
 part_of_more size part some none = record { short = omega (arith, some, none.short); below = none.below }
 
-pub nothing_came : (c : CodeData) (reader : Reader) → 0 < c.q → reader.count ≡ 0 → HasCome c reader.blocks [] → Holds reader.symbols [] → Holds reader.bits [] → HasText c [] [] reader
+pub nothing_came : (c : CodeData) (reader : Reader) → 0 < c.q → reader.count ≡ 0 → HaveCome c reader.blocks [] → Holds reader.symbols [] → Holds reader.bits [] → HasText c [] [] reader
 nothing_came c reader some none came symbols bits = record {
   clean = All-nil (IsDigit c);
   counted = none;

@@ -1,3 +1,4 @@
+pub mod Answers
 pub mod Between
 pub mod Digits
 pub mod ItemTables
@@ -5,4 +6,6 @@ pub mod Parts
 pub mod Readers
 pub mod Rooms
 pub mod Sets
+pub mod TableDecoding
 pub mod Tables
+pub mod WindowDecoding

@@ -1,6 +1,7 @@
 //! Encoding and decoding: data words to blocks and back, and files to plain channel text and back.
 #![tactic(auto)]
 
+mod answers;
 mod block_decoder;
 mod bytes;
 mod counts;
@@ -14,9 +15,11 @@ mod reader;
 mod state_sets;
 mod steps;
 mod table;
+mod table_decoder;
 mod text_decoder;
 mod text_writer;
 mod window;
+mod window_decoder;
 mod words;
 
 pub use block_decoder::BlockDecoder;

@@ -11,7 +11,7 @@ pub(crate) struct Part {
 
 /// The digits of a number behind those of another.
 #[inline]
-fn joined(value: u32, count: u32, digits: u32, width: u32) -> u32
+pub(crate) fn joined(value: u32, count: u32, digits: u32, width: u32) -> u32
     requires value { value < 2 ^ count }
     requires digits { digits < 2 ^ width }
     requires fits { count + width < 32 }
@@ -23,7 +23,7 @@ fn joined(value: u32, count: u32, digits: u32, width: u32) -> u32
 
 /// The last so many binary digits of a number.
 #[inline]
-fn last_digits(value: u32, count: u32) -> u32
+pub(crate) fn last_digits(value: u32, count: u32) -> u32
     requires { count < 32 }
     ensures value { result ≡ value % 2 ^ count }
     ensures below { result < 2 ^ count }

@@ -3,8 +3,8 @@ ghost use Rattle.code_spec.specs.Code.{IsCode};
 ghost use Rattle.code_spec.specs.PlainReading.{is_blank};
 ghost use Rattle.block_codec.specs.inside.Readers.{IsReaderFor, HasSymbols, HasText, GoesOn, TakesPiece, IsFrontOf, IsBadByte, listed};
 
-use crate::block_decoder::BlockDecoder;
 use crate::part::Part;
+use crate::window_decoder::WindowDecoder;
 use code_model::Code;
 use std::alloc::Global;
 use symbol_base::{Block, NoMemory};
@@ -12,7 +12,7 @@ use symbol_base::{Block, NoMemory};
 /// A reader of symbols: of the blocks that they fill, the data words of these, and the bytes that those fill.
 #[derive(Debug, Drop)]
 pub(crate) struct Reader {
-    blocks: BlockDecoder,
+    blocks: WindowDecoder,
     symbols: Part,
     bits: Part,
     count: u64,
@@ -27,7 +27,7 @@ impl Reader {
         ensures none { IfOk result (λ reader. reader.count ≡ 0) }
     {
         Ok(Reader {
-            blocks: BlockDecoder::for_code(alloc, code)?,
+            blocks: WindowDecoder::for_code(alloc, code)?,
             symbols: Part::none(),
             bits: Part::none(),
             count: 0,

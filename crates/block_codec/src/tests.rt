@@ -1,5 +1,6 @@
 ghost use Rattle.std.specs.Prelude.{◌≡◌, ◌≤◌, ◌^◌, length, IfOk};
 
+use crate::answers::{answer_table, has_short_windows};
 use crate::reader::Reader;
 use crate::window::decode_window;
 use crate::{TextWriter, block_count, symbol_count};
@@ -238,6 +239,21 @@ fn each_window_has_its_word(rt: HostRuntime) -> Result<(), Fail> {
         ];
         assert!(rt; window.len() == (code.past + 1 + code.ahead) as usize);
         assert_eq!(rt; decode_window(&code, &window), word);
+    }
+    Ok(())
+}
+
+// the same windows as the numbers of their nine symbols
+#[test]
+fn the_table_has_each_windows_word(rt: HostRuntime) -> Result<(), Fail> {
+    let alloc = rt.alloc();
+    let code = no_two_zeros(alloc)?;
+    assert!(rt; has_short_windows(&code));
+    let table = answer_table(alloc, &code)?;
+    assert_eq!(rt; table.len(), 512);
+    for (number, word) in [(0o276, 0), (0o765, 1), (0o653, 2), (0o535, 3), (0, 0)] {
+        assert!(rt; number < 512);
+        assert_eq!(rt; table[number], word);
     }
     Ok(())
 }

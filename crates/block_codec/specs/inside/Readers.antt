@@ -4,15 +4,15 @@ use Rattle.symbol_base.specs.declared.Block.{Block}
 use Rattle.code_spec.specs.Code.{CodeData}
 use Rattle.code_spec.specs.Decoder.{AreDecoded}
 use Rattle.code_spec.specs.PlainReading.{is_blank, IsDigit, IsChannelText, symbols_in, AreBlocksOf, AreBytesOf}
-use Rattle.block_codec.specs.declared.block_decoder.BlockDecoder.{BlockDecoder}
 use Rattle.block_codec.specs.declared.part.Part.{Part}
 use Rattle.block_codec.specs.declared.reader.Reader.{Reader}
-use Rattle.block_codec.specs.Decoding.{IsDecoderFor, HasCome}
+use Rattle.block_codec.specs.declared.window_decoder.WindowDecoder.{WindowDecoder}
 use Rattle.block_codec.specs.inside.Parts.{IsPart, Holds}
+use Rattle.block_codec.specs.inside.WindowDecoding.{IsMadeFor, HaveCome}
 
 -- a reader that was made for the code
 pub record IsReaderFor (c : CodeData) (reader : Reader) : Type 0 where
-  pub blocks : IsDecoderFor c reader.blocks
+  pub blocks : IsMadeFor c reader.blocks
   pub symbols : IsPart c.q reader.symbols
   pub bits : IsPart 8 reader.bits
 
@@ -23,8 +23,8 @@ pub record HoldsBits (p : ℕ) (words bytes : List ℕ) (bits : Part) : Type 0 w
   pub held : Holds bits rest
 
 -- these blocks have come, and their answers gave these bytes
-pub record HasDecoded (c : CodeData) (blocks : List Block) (bytes : List ℕ) (decoder : BlockDecoder) (bits : Part) : Type 0 where
-  pub came : HasCome c decoder blocks
+pub record HasDecoded (c : CodeData) (blocks : List Block) (bytes : List ℕ) (decoder : WindowDecoder) (bits : Part) : Type 0 where
+  pub came : HaveCome c decoder blocks
   pub words : List ℕ
   pub decoded : AreDecoded c blocks words
   pub gave : HoldsBits c.p words bytes bits
