@@ -119,8 +119,20 @@ fn make_call(call: &Call, coder: &Coder, t: u32, word: &mut [u8], number: u8)
             damage(word, t, number);
             let _count = correct(word, t);
         }
-        Call::Make => word[0] ^= u8::from(Coder::new(t).is_code_word(word)),
+        Call::Make => make_coder(t, word),
     }
+}
+
+/// Makes a coder and asks it once. It stays a function of its own: where a function keeps a coder, all of
+/// the coder's room is set to 0 at each call, which cost the other calls more than their own work.
+#[inline(never)]
+fn make_coder(t: u32, word: &mut [u8])
+    requires least { 1 ≤ t }
+    requires most { t ≤ 16 }
+    requires long { 2 * t < length word.old }
+    requires short { length word.old ≤ 255 }
+{
+    word[0] ^= u8::from(Coder::new(t).is_code_word(word));
 }
 
 /// Changes t symbols.
