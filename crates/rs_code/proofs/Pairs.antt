@@ -1,12 +1,12 @@
 -- Two symbols fed to the register at once.
-use Rattle.std.proofs.Common.{◌≡◌, ◌∙◌, ℕ, zero, suc, ◌+◌, ◌*◌, ◌/◌, ◌%◌, ◌^◌, ◌<◌, ◌≤◌, List, [], ◌∷◌, ◌++◌, length, drop, take, replicate, refl, sym, ap, ap₂, arith, subst, get_or, length-append}
+use Rattle.std.proofs.Common.{◌≡◌, ◌∙◌, ℕ, zero, suc, ◌+◌, ◌*◌, ◌/◌, ◌%◌, ◌^◌, ◌<◌, ◌≤◌, List, [], ◌∷◌, ◌++◌, length, drop, take, refl, sym, ap, ap₂, arith, subst, get_or, length-append}
 use Rattle.std.specs.Prelude.{bit_xor}
-use Rattle.std.specs.Int.{bytes_high_first, w128, to_be_bytes}
+use Rattle.std.specs.Int.{bytes_high_first}
 use Rattle.std.proofs.lemmas.List.{take_all, get_or-drop, length-drop, length-map, ext_get_or}
 use Rattle.gf256.specs.Field.{IsElement, plus, times}
 use Rattle.gf256.specs.Linear.{scaled}
 use Rattle.gf256.proofs.Lists.{get_or-scaled}
-use Rattle.gf256.proofs.FieldLaws.{plus_comm, plus_assoc, plus-lt, plus-zero, zero-plus, times-zero, plus-times}
+use Rattle.gf256.proofs.FieldLaws.{plus_comm, plus_assoc, plus-lt, zero-plus, times-zero, plus-times}
 use Rattle.rs_code.specs.Polynomial.{sum_of, IsBelowDegree}
 use Rattle.rs_code.specs.inside.Register.{register, AreRows, AreFarRows, IsRest, row_place, narrow_step, wide_step, wide_step_behind}
 use Rattle.rs_code.proofs.Words.{length-sum_of}

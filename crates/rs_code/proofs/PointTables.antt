@@ -1,5 +1,5 @@
 -- The values of a polynomial as sums of the values of monomials, and at the points farther on.
-use Rattle.std.proofs.Common.{◌≡◌, ◌∙◌, ℕ, zero, suc, add-one, ◌+◌, ◌-◌, ◌*◌, ◌/◌, ◌%◌, ◌<◌, ◌≤◌, List, [], ◌∷◌, ◌++◌, length, take, drop, refl, sym, ap, ap₂, arith, get_or, length-append, replicate, set, below_more, subst, ◌≢◌, get_or-set_other, get_or-set_same, ⊎_elim}
+use Rattle.std.proofs.Common.{◌≡◌, ◌∙◌, ℕ, zero, suc, add-one, ◌+◌, ◌-◌, ◌*◌, ◌/◌, ◌%◌, ◌<◌, ◌≤◌, List, [], ◌∷◌, ◌++◌, length, take, drop, refl, sym, ap, ap₂, arith, get_or, length-append, set, subst, ⊎_elim}
 use Rattle.std.specs.Prelude.{bit_xor}
 use Rattle.std.proofs.lemmas.Nat.{xor_shr, xor_mod}
 use Rattle.std.proofs.lemmas.Bool.{cases_lt}
@@ -12,10 +12,9 @@ use Rattle.rs_code.specs.inside.PointTables.{IsMonomial, AreMonomials}
 use Rattle.gf256.specs.declared.Gf.{Gf}
 use Rattle.gf256.specs.Linear.{values}
 use Rattle.gf256.proofs.Lists.{values-set, length-values}
-use Rattle.rs_code.proofs.Roots.{at_zeros}
 use Rattle.rs_code.proofs.Locators.{at-sum_of, value_at-lt}
 use Rattle.rs_code.proofs.Moments.{Elements}
-use Rattle.rs_code.proofs.Steps.{bit_xor-plus, zeros_replicate, written_more}
+use Rattle.rs_code.proofs.Steps.{bit_xor-plus, written_more}
 
 -- the two halves of a byte
 pub halves : (c : ℕ) → c < 256 → plus (1 * (c % 16)) (16 * (c / 16)) ≡ c

@@ -11,11 +11,12 @@ use Rattle.std.proofs.lemmas.List.Elements.{All-append}
 use Rattle.rs_code.proofs.Patterns.{all_of}
 use Rattle.rs_code.proofs.Locators.{at-sum_of}
 use Rattle.rs_code.proofs.Roots.{at_zeros}
-use Rattle.gf256.proofs.FieldLaws.{times_cancel_left, times_comm, times_assoc, times-lt, power-lt, alpha-ne-zero, plus_comm, plus-lt, plus-zero, zero-plus, zero-times, times-zero, power-add}
+use Rattle.gf256.proofs.FieldLaws.{times_cancel_left, times_comm, times_assoc, times-lt, power-lt, alpha-ne-zero, plus_comm, plus-lt, plus-zero, zero-plus, zero-times, times-zero, plus-times, power-add}
 use Rattle.rs_code.specs.Word.{weighted_sum}
 use Rattle.rs_code.specs.Polynomial.{sum_of, IsBelowDegree}
 use Rattle.rs_code.specs.inside.Register.{register, IsGenerator, AreRows, IsRest, row_place, narrow_step, wide_step, wide_step_behind}
 use Rattle.rs_code.proofs.Moments.{AreZero}
+use Rattle.rs_code.proofs.PointTables.{halves}
 use Rattle.rs_code.proofs.Steps.{values-take, values-drop, bit_xor-plus, weighted_sum-AreZero, zeros_replicate}
 use Rattle.rs_code.proofs.Encoding.{fed, weighted_sum-append, weighted_sum-fed, remainder_more}
 use Rattle.rs_code.proofs.Bytes.{length-bytes, bytes-zero, bytes-xor, bytes-shl, bytes-byte, sum_of-push, Elements-bytes}
@@ -266,11 +267,25 @@ packed_row row high low full front back =
     (back ∙ ap values (take_all 16 (drop 16 row) (omega (arith, full, length-drop 16 row))) ∙ values-drop 16 row)
     ∙ take-append-drop 16 (values row)
 
+-- the sum of two multiples
+sum_of-scaled : (x y : ℕ) (g : List ℕ) → sum_of (scaled x g) (scaled y g) ≡ scaled (plus x y) g
+sum_of-scaled x y [] = refl
+sum_of-scaled x y (v ∷ g) = ap₂ (λ w ws. w ∷ ws) (sym (plus-times x y v)) (sum_of-scaled x y g)
+
+-- a row is the sum of those of the two halves of its factor
+pub row_of_halves : (f high low upper_high upper_low : ℕ) (g : List ℕ) → f < 256 → register high low ≡ scaled (1 * (f % 16)) g
+    → register upper_high upper_low ≡ scaled (16 * (f / 16)) g
+    → register (bit_xor high upper_high) (bit_xor low upper_low) ≡ scaled f g
+row_of_halves f high low upper_high upper_low g small lower upper =
+    ap₂ (λ a b. a ++ b) (bytes-xor 16 high upper_high) (bytes-xor 16 low upper_low)
+    ∙ sym (sum_of-append (bytes_high_first 16 high) (bytes_high_first 16 low) (bytes_high_first 16 upper_high) (bytes_high_first 16 upper_low) refl)
+    ∙ ap₂ sum_of lower upper ∙ sum_of-scaled (1 * (f % 16)) (16 * (f / 16)) g ∙ ap (λ v. scaled v g) (halves f small)
+
 -- a further row of the table
-pub rows_more : (high low g : List ℕ) (f first second : ℕ) → f < length high → f < length low
-    → ((k : ℕ) → k < f → register (get_or high k 0) (get_or low k 0) ≡ scaled k g) → register first second ≡ scaled f g
-    → (k : ℕ) → k < f + 1 → register (get_or (set high f first) k 0) (get_or (set low f second) k 0) ≡ scaled k g
-rows_more high low g f first second in_high in_low before here =
+pub rows_more : (high low : List ℕ) (row : ℕ → List ℕ) (f first second : ℕ) → f < length high → f < length low
+    → ((k : ℕ) → k < f → register (get_or high k 0) (get_or low k 0) ≡ row k) → register first second ≡ row f
+    → (k : ℕ) → k < f + 1 → register (get_or (set high f first) k 0) (get_or (set low f second) k 0) ≡ row k
+rows_more high low row f first second in_high in_low before here =
     below_more _ _
     (λ k h. let ne : k ≢ f = omega arith in
     ap₂ register (get_or-set_other high f k first 0 ne) (get_or-set_other low f k second 0 ne) ∙ before k h)

@@ -194,16 +194,35 @@ impl Coder {
     }
 }
 
-/// The multiples of a polynomial, each in two numbers.
+/// The multiples of a polynomial, each in two numbers. They are sums of those by the numbers below 16 and
+/// those by the multiples of 16.
 fn multiples(polynomial: &[Gf; 32]) -> ([u128; 256], [u128; 256])
     ensures { (f : ℕ) → f < 256 → register (slice_index result.0 f) (slice_index result.1 f) ≡ scaled f (values polynomial.now) }
 {
+    let lower = sixteen_multiples(polynomial, 1);
+    let upper = sixteen_multiples(polynomial, 16);
     let mut high = [0; 256];
     let mut low = [0; 256];
     for f in 0..256 {
-        let row = multiple(polynomial, Gf { value: f as u8 });
-        high[f] = packed(&row[..16]);
-        low[f] = packed(&row[16..]);
+        high[f] = lower.0[f % 16] ^ upper.0[f / 16];
+        low[f] = lower.1[f % 16] ^ upper.1[f / 16];
+    }
+    (high, low)
+}
+
+/// The multiples of a polynomial by the first sixteen multiples of a factor, each in two numbers.
+fn sixteen_multiples(polynomial: &[Gf; 32], factor: u8) -> ([u128; 16], [u128; 16])
+    requires { factor ≤ 16 }
+    ensures { (k : ℕ) → k < 16
+        → register (slice_index result.0 k) (slice_index result.1 k) ≡ scaled (factor * k) (values polynomial.now) }
+{
+    let mut high = [0; 16];
+    let mut low = [0; 16];
+    for k in 0..16 {
+        let value = factor * k as u8;
+        let row = multiple(polynomial, Gf { value });
+        high[k] = packed(&row[..16]);
+        low[k] = packed(&row[16..]);
     }
     (high, low)
 }

@@ -1,4 +1,4 @@
-use Rattle.std.proofs.Common.{◌≡◌, ◌∙◌, ◌+◌, ◌*◌, ◌/◌, ◌%◌, ◌^◌, ◌<◌, ℕ, List, sym, ap, ap₂, arith, length-set, get_or}
+use Rattle.std.proofs.Common.{◌≡◌, ◌∙◌, ◌*◌, ◌/◌, ◌%◌, ◌^◌, ◌<◌, ℕ, List, sym, ap, ap₂, arith, length-set, get_or}
 use Rattle.std.specs.Prelude.{bit_xor}
 use Rattle.gf256.proofs.FieldLaws.{plus-zero}
 use Rattle.rs_code.specs.inside.Register.{wide_step, wide_step_behind}

@@ -1,4 +1,4 @@
-use Rattle.std.proofs.Common.{◌∙◌, ◌<◌, ℕ, sym, ap, ap₂, arith, length-set, get_or}
+use Rattle.std.proofs.Common.{◌∙◌, ℕ, sym, ap, ap₂, arith, length-set, get_or}
 use Rattle.gf256.specs.Field.{plus, times}
 use Rattle.gf256.specs.Linear.{values}
 use Rattle.gf256.proofs.Lists.{at-values}

@@ -1,4 +1,4 @@
-use Rattle.std.proofs.Common.{◌∙◌, ◌<◌, ℕ, sym, ap₂, arith, subst, length-set, get_or}
+use Rattle.std.proofs.Common.{◌∙◌, ℕ, sym, ap₂, arith, subst, length-set, get_or}
 use Rattle.std.proofs.lemmas.List.Elements.{All-from_get_or}
 use Rattle.gf256.specs.Field.{IsElement, times}
 use Rattle.gf256.specs.Linear.{values}

@@ -1,4 +1,4 @@
-use Rattle.std.proofs.Common.{◌≡◌, ◌∙◌, ◌-◌, ◌+◌, ℕ, sym, ap, ap₂, arith, drop, List, length, get_or, replicate}
+use Rattle.std.proofs.Common.{◌≡◌, ◌∙◌, ◌-◌, ◌+◌, ℕ, sym, ap, arith, drop, List, length, get_or, replicate}
 use Rattle.std.proofs.lemmas.List.{drop_all}
 use Rattle.gf256.specs.Field.{plus, times}
 use Rattle.gf256.specs.Linear.{values}

@@ -1,4 +1,4 @@
-use Rattle.std.proofs.Common.{◌∙◌, sym, ap₂, arith, length-set, take, [], ◌++◌, ◌∷◌}
+use Rattle.std.proofs.Common.{◌∙◌, sym, ap₂, arith, length-set, [], ◌++◌, ◌∷◌}
 use Rattle.std.proofs.lemmas.List.{take_more, take_more_set}
 use Rattle.gf256.specs.Linear.{values}
 use Rattle.gf256.proofs.Lists.{at-values, length-values}

@@ -1,9 +1,5 @@
-use Rattle.std.proofs.Common.{◌∙◌, ap, arith, length-set, subst, sym}
-use Rattle.std.proofs.lemmas.List.Elements.{All-from_get_or}
-use Rattle.gf256.specs.Field.{IsElement, times, power}
-use Rattle.gf256.specs.Linear.{values}
-use Rattle.gf256.proofs.FieldLaws.{times-lt}
-use Rattle.gf256.proofs.Lists.{length-values}
+use Rattle.std.proofs.Common.{◌∙◌, ap, arith, length-set}
+use Rattle.gf256.specs.Field.{times, power}
 use Rattle.rs_code.proofs.PointTables.{values_written}
 use Rattle.rs_code.proofs.monomials.progression.Goals as goal
 

@@ -1,4 +1,4 @@
-use Rattle.std.proofs.Common.{◌≡◌, ◌∙◌, ◌+◌, ◌*◌, ◌/◌, ◌%◌, ◌<◌, ◌≤◌, ℕ, sym, ap, ap₂, arith, length, get_or}
+use Rattle.std.proofs.Common.{◌≡◌, ◌∙◌, ◌+◌, ◌*◌, ◌/◌, ◌%◌, ◌<◌, ℕ, ap, ap₂, arith, get_or}
 use borrow.Rule.Slice.PartMut.{same_len_mid}
 use Rattle.gf256.specs.Field.{times, power, alpha}
 use Rattle.rs_code.proofs.PointTables.{block_put, powers_exchange}

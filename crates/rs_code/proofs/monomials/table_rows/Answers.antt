@@ -1,4 +1,4 @@
-use Rattle.std.proofs.Common.{◌≡◌, ◌∙◌, ◌+◌, ◌*◌, ◌/◌, ◌%◌, ◌<◌, ◌≤◌, ℕ, List, sym, ap, ap₂, arith, length, get_or, replicate}
+use Rattle.std.proofs.Common.{◌≡◌, ◌∙◌, ◌+◌, ◌*◌, ◌/◌, ◌%◌, ◌<◌, ℕ, ap, ap₂, arith, get_or}
 use borrow.Rule.Slice.PartMut.{same_len_mid}
 use Rattle.gf256.specs.Field.{times, power}
 use Rattle.std.proofs.lemmas.List.{get_or-replicate}

@@ -1,4 +1,4 @@
-use Rattle.std.proofs.Common.{◌≡◌, ◌∙◌, ◌+◌, ◌*◌, ◌<◌, ℕ, List, ap, arith, refl, length, take, get_or, sym}
+use Rattle.std.proofs.Common.{◌≡◌, ◌∙◌, ◌+◌, ◌*◌, ℕ, List, ap, arith, length, get_or, sym}
 use borrow.Rule.Slice.PartMut.{same_len_mid}
 use Rattle.gf256.specs.Field.{power, alpha}
 use Rattle.gf256.specs.declared.Gf.{Gf}

@@ -1,4 +1,4 @@
-use Rattle.std.proofs.Common.{◌≡◌, ◌+◌, ◌*◌, ◌∙◌, ℕ, sym, ap, arith}
+use Rattle.std.proofs.Common.{◌≡◌, ◌+◌, ◌*◌, ◌∙◌, ap, arith}
 use Rattle.gf256.specs.Field.{power, alpha}
 use Rattle.gf256.specs.Linear.{values}
 use Rattle.rs_code.specs.Polynomial.{value_at}

@@ -1,4 +1,4 @@
-use Rattle.std.proofs.Common.{◌≡◌, ◌<◌, ◌∷◌, ◌+◌, ◌∙◌, ℕ, List, sym, refl, ap, arith, subst, get_or, replicate}
+use Rattle.std.proofs.Common.{◌≡◌, ◌∷◌, ◌+◌, ◌∙◌, ℕ, List, sym, refl, ap, arith, subst, get_or}
 use Rattle.std.proofs.lemmas.List.{take_all, get_or-replicate}
 use Rattle.gf256.specs.Field.{IsElement, power, alpha}
 use Rattle.gf256.specs.Linear.{values}

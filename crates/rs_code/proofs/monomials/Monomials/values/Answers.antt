@@ -1,4 +1,4 @@
-use Rattle.std.proofs.Common.{◌≡◌, ◌∙◌, ◌+◌, ◌-◌, ◌*◌, ◌<◌, ◌∷◌, ◌++◌, ℕ, suc, List, [], sym, ap, ap₂, refl, arith, subst, length, drop, take, get_or, replicate}
+use Rattle.std.proofs.Common.{◌≡◌, ◌∙◌, ◌+◌, ◌-◌, ◌*◌, ◌<◌, ◌∷◌, ◌++◌, ℕ, suc, List, sym, ap, refl, arith, subst, length, drop, take, get_or, replicate}
 use Rattle.std.specs.Prelude.{All}
 use borrow.Rule.Slice.PartMut.{same_len_mid}
 use Rattle.gf256.specs.Field.{IsElement, times, power, alpha}

@@ -1,4 +1,4 @@
-use Rattle.std.proofs.Common.{◌≡◌, ◌*◌, ◌-◌, ◌<◌, ◌∷◌, ℕ, [], take, length, get_or}
+use Rattle.std.proofs.Common.{◌≡◌, ◌*◌, ◌<◌, ◌∷◌, ℕ, take, length, get_or}
 use Rattle.std.specs.Prelude.{All}
 use Rattle.gf256.specs.Field.{IsElement, times, power, alpha}
 use Rattle.gf256.specs.Linear.{values}
