@@ -6,4 +6,5 @@ pub mod Renumbered
 pub mod Searching
 pub mod Sums
 pub mod KeptSums
+pub mod KeptCounts
 pub mod OneSink

@@ -1,6 +1,7 @@
-ghost use Rattle.std.specs.Prelude.{◌≡◌, ◌<◌, ◌^◌, All, IfOk, length, map};
+ghost use Rattle.std.specs.Prelude.{◌≡◌, ◌<◌, ◌≤◌, ◌^◌, All, IfOk, length, map};
 ghost use Rattle.label_graphs.specs.Graph.{IsGraph};
 ghost use Rattle.label_graphs.specs.Kept.{IsKept};
+ghost use Rattle.label_graphs.specs.Power.{edge_count};
 ghost use Rattle.label_graphs.specs.Views.{edge_data};
 ghost use Rattle.label_graphs.specs.inside.Numbers.{AreRanks, is_marked, renumbered};
 
@@ -15,6 +16,7 @@ pub fn keep<N: Name>(alloc: Global, graph: &Graph<N>, marks: &[bool]) -> Result<
     requires { length marks.now ≡ length graph.now }
     ensures kept { IfOk result (λ kept. IsKept graph.now marks.now kept) }
     ensures graph { IfOk result (λ kept. IsGraph kept) }
+    ensures fewer { IfOk result (λ kept. edge_count kept ≤ edge_count graph.now) }
 {
     let count = graph.states();
     let numbers = new_numbers(alloc, marks)?;

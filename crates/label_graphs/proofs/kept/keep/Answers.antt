@@ -2,6 +2,7 @@ use Rattle.std.proofs.Common.{[], length, map, get_or, ap, sym, ◌∙◌, arith
 use Rattle.label_graphs.specs.Views.{edge_data, rows_data}
 use Rattle.label_graphs.specs.inside.Numbers.{is_marked}
 use Rattle.label_graphs.proofs.Renumbered.{row_kept, row_left, rows_are_kept, kept_is_graph, kept_to_end, targets_inside}
+use Rattle.label_graphs.proofs.KeptCounts.{no_more_edges}
 use Rattle.label_graphs.proofs.kept.keep.Goals.{then-marks-state+in_ok-row+in_ok-push, else-marks-state}
 use Rattle.label_graphs.proofs.kept.keep.Goals as goal
 
@@ -35,4 +36,9 @@ from_rows-requires g c =
 pub returns-clause-kept : goal.returns-clause-kept
 returns-clause-kept g c =
     rows_are_kept c.args.graph.now c.from_rows.result c.args.marks.now c.states-count.ensures.kept c.requires (c.from_rows.ensures
+    ∙ kept_to_end c.args.graph.now (rows_data (g.N.Name.number) c.loop-state.rows.items) (is_marked c.args.marks.now) c.loop-state.state c.loop-state.invariant (omega arith))
+
+pub returns-clause-fewer : goal.returns-clause-fewer
+returns-clause-fewer g c =
+    no_more_edges c.args.graph.now c.from_rows.result (is_marked c.args.marks.now) (c.from_rows.ensures
     ∙ kept_to_end c.args.graph.now (rows_data (g.N.Name.number) c.loop-state.rows.items) (is_marked c.args.marks.now) c.loop-state.state c.loop-state.invariant (omega arith))
