@@ -123,8 +123,8 @@ fn make_call(call: &Call, coder: &Coder, t: u32, word: &mut [u8], number: u8)
     }
 }
 
-/// Makes a coder and asks it once. It stays a function of its own: where a function keeps a coder, all of
-/// the coder's room is set to 0 at each call, which cost the other calls more than their own work.
+/// Makes a coder and asks it once. It stays a function of its own: a function that keeps a coder sets all
+/// of the coder's room to 0 each time it begins, and the time of that would count with every other call.
 #[inline(never)]
 fn make_coder(t: u32, word: &mut [u8])
     requires least { 1 ≤ t }
