@@ -73,12 +73,24 @@ joined_by_shift value count digits width below small fits =
     let plain : value * 2 ^ width % 4294967296 ≡ value * 2 ^ width = mod-eq_of_lt (omega (arith, bound, most)) in
     ap (λ n. bit_or n digits) plain ∙ or_shifted value width digits small
 
+pub joined_by_wide_shift : (value count digits width : ℕ) → value < 2 ^ count → digits < 2 ^ width → count + width ≤ 64
+    → bit_or (value * 2 ^ width % 18446744073709551616) digits ≡ value * 2 ^ width + digits
+joined_by_wide_shift value count digits width below small fits =
+    let bound : value * 2 ^ width < 2 ^ (count + width) = shl_below value count width below in
+    let some : 0 < 2 = omega arith in
+    let most : 2 ^ (count + width) ≤ 2 ^ 64 = pow-le-pow_right some fits in
+    let plain : value * 2 ^ width % 18446744073709551616 ≡ value * 2 ^ width = mod-eq_of_lt (omega (arith, bound, most)) in
+    ap (λ n. bit_or n digits) plain ∙ or_shifted value width digits small
+
 pub joined_below : (value count digits width : ℕ) → value < 2 ^ count → digits < 2 ^ width → value * 2 ^ width + digits < 2 ^ (count + width)
 joined_below value count digits width below small =
     subst (λ n. value * 2 ^ width + digits < n) (sym (pow-add 2 count width)) (digit_before (2 ^ count) (2 ^ width) value digits below small)
 
 pub last_by_mask : (value count : ℕ) → count < 32 → bit_and value (1 * 2 ^ count % 4294967296 - 1) ≡ value % 2 ^ count
 last_by_mask value count fits = ap (λ n. bit_and value (n - 1)) (one_shl count 32 fits) ∙ and_mask value count
+
+pub last_by_wide_mask : (value count : ℕ) → count < 64 → bit_and value (1 * 2 ^ count % 18446744073709551616 - 1) ≡ value % 2 ^ count
+last_by_wide_mask value count fits = ap (λ n. bit_and value (n - 1)) (one_shl count 64 fits) ∙ and_mask value count
 
 pub last_below : (value count : ℕ) → value % 2 ^ count < 2 ^ count
 last_below value count = mod-lt value (power_positive 2 count (omega arith))

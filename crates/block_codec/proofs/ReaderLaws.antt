@@ -1,6 +1,7 @@
 -- One symbol more, one block more, one word more.
 use Rattle.std.proofs.Common.{◌≡◌, ℕ, ◌+◌, ◌-◌, ◌<◌, ◌≤◌, ◌^◌, Option, Some, None, List, [], ◌∷◌, ◌++◌, length, take, drop, get_or, refl, sym, ap, ap₂, ◌∙◌, subst, arith, inl, inr, append_assoc}
 use Rattle.std.specs.Prelude.{All, Bool, true, false, not, cond, map}
+use Rattle.std.proofs.Math.Seq.{take-add}
 use Rattle.std.proofs.lemmas.Bool.{cases_lt}
 use Rattle.std.proofs.lemmas.List.{append-nil, length-append, map-append, get_or_append_left, get_or_push, take-append-le, take_all, drop-append-le, length-drop}
 use Rattle.std.proofs.lemmas.List.Concat.{flat_map-append}
@@ -235,7 +236,7 @@ bad_above c byte two seen high = record { seen = seen; bad = λ digit. omega (ar
 
 -- the symbols don't depend on their count
 pub recounted : (c : CodeData) (symbols bytes : List ℕ) (reader : Reader) (n : ℕ) → HasSymbols c symbols bytes reader
-    → HasSymbols c symbols bytes (record { blocks = reader.blocks; symbols = reader.symbols; bits = reader.bits; count = n })
+    → HasSymbols c symbols bytes (record { blocks = reader.blocks; symbols = reader.symbols; bits = reader.bits; digits = reader.digits; count = n })
 recounted c symbols bytes reader n has = record { blocks = has.blocks; rest = has.rest; cut = has.cut; held = has.held; decoded = has.decoded }
 
 pub digit_goes_on : (c : CodeData) (text bytes : List ℕ) (symbol : ℕ) (old new : Reader) (result : Option ℕ) (out out' : List ℕ) → c.constraint.alphabet ≡ 2 → symbol < 2
@@ -283,6 +284,15 @@ goes_further c text bytes first second all old middle new reader later joined be
           subst (λ (list : List ℕ). HasText c list (bytes ++ (before.given ++ after.given)) later) texts
           (subst (λ (list : List ℕ). HasText c ((text ++ first) ++ second) list later) (append_assoc bytes before.given after.given) after.reads);
     }
+
+-- so many bytes more of a piece
+pub piece_further : (c : CodeData) (text bytes piece old middle new : List ℕ) (at taken : ℕ) (reader later : Reader) → GoesOn c text bytes (take at piece) old middle reader
+    → ((t b : List ℕ) → HasText c t b reader → GoesOn c t b (take taken (take (length piece - at) (drop at piece))) middle new later) → GoesOn c text bytes (take (at + taken) piece) old new later
+piece_further c text bytes piece old middle new at taken reader later before next =
+    let rest : take (length piece - at) (drop at piece) ≡ drop at piece = take_all (length piece - at) (drop at piece) (omega (arith, length-drop at piece)) in
+    let joined : take (at + taken) piece ≡ take at piece ++ take taken (take (length piece - at) (drop at piece)) =
+    take-add at taken piece ∙ ap (λ (list : List ℕ). take at piece ++ take taken list) (sym rest) in
+    goes_further c text bytes (take at piece) (take taken (take (length piece - at) (drop at piece))) (take (at + taken) piece) old middle new reader later joined before next
 
 pub stops : (c : CodeData) (text bytes piece old new : List ℕ) (at : ℕ) (reader : Reader) → at < length piece → IsBadByte c (get_or piece at 0)
     → GoesOn c text bytes (take at piece) old new reader → StopsAt c piece at

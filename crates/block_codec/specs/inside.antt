@@ -2,6 +2,7 @@ pub mod Answers
 pub mod Between
 pub mod Digits
 pub mod ItemTables
+pub mod Packing
 pub mod Parts
 pub mod Readers
 pub mod Rooms

@@ -4,11 +4,12 @@ ghost use Rattle.std.specs.Prelude.{◌≡◌, ◌+◌, ◌*◌, ◌/◌, ◌%�
 ghost use Rattle.std.specs.Bool.{OnTrue};
 ghost use Rattle.code_spec.specs.Code.{IsState, IsDataWord};
 ghost use Rattle.code_spec.specs.Output.{row_at, output};
-ghost use Rattle.code_spec.specs.Decoder.{window_length};
+ghost use Rattle.symbol_base.specs.Block.{symbols_of};
+ghost use Rattle.code_spec.specs.Decoder.{window_length, AreDecoded};
 ghost use Rattle.block_codec.specs.Decoding.{block_of};
-ghost use Rattle.block_codec.specs.inside.Answers.{HasShortWindows, IsAnswerTable, window_count, list_count, window_of, words_in};
+ghost use Rattle.block_codec.specs.inside.Answers.{HasShortWindows, IsAnswerTable, blocks_in, window_count, list_count, window_of, words_in};
 
-use crate::part::{joined, last_digits};
+use crate::part::{joined, joined_wide, last_digits, last_digits_wide};
 use code_model::Code;
 use std::alloc::Global;
 use symbol_base::{CodeName, Name, NoMemory};
@@ -109,4 +110,22 @@ pub(crate) fn answer_table(alloc: Global, code: &Code) -> Result<Vec<u8>, NoMemo
         table[place as usize] = digit_of(words, code.p, code.ahead) as u8;
     }
     Ok(table)
+}
+
+/// The answers to the eight windows of a number, as a number: the first window ends with its eighth last block.
+#[inline]
+pub(crate) fn eight_words(code: &Code, table: &[u8], here: u64) -> u64
+    requires table { IsAnswerTable code.now table.now }
+    requires fits { code.now.q * (window_length code.now + 7) < 64 }
+    ensures words { AreDecoded code.now (blocks_in code.now.q (window_length code.now + 7) here) (symbols_of (2 ^ code.now.p) 8 result) }
+    ensures below { result < 2 ^ (code.now.p * 8) }
+{
+    let size = code.q * window_length(code);
+    let mut words = 0;
+    for k in 0..8 {
+        let window = last_digits_wide(here >> (code.q * (7 - k)), size);
+        let word = table[window as usize];
+        words = joined_wide(words, code.p * k, u64::from(word), code.p);
+    }
+    words
 }

@@ -5,6 +5,7 @@ mod answers;
 mod block_decoder;
 mod bytes;
 mod counts;
+mod digits;
 mod encoder;
 mod fault;
 mod item_table;

@@ -1,4 +1,5 @@
 ghost use Rattle.std.specs.Prelude.{◌≡◌, ℕ, ◌+◌, ◌*◌, ◌%◌, ◌^◌, ◌<◌, ◌≤◌, List, [], ◌++◌, IfSome};
+ghost use Rattle.std.specs.Bool.{OnTrue};
 ghost use Rattle.symbol_base.specs.Block.{symbols_of};
 ghost use Rattle.block_codec.specs.inside.Parts.{IsPart, Holds, Regroups};
 
@@ -31,6 +32,29 @@ pub(crate) fn last_digits(value: u32, count: u32) -> u32
     value & ((1 << count) - 1)
 }
 
+/// The digits of a long number behind those of another.
+#[inline]
+pub(crate) fn joined_wide(value: u64, count: u32, digits: u64, width: u32) -> u64
+    requires value { value < 2 ^ count }
+    requires digits { digits < 2 ^ width }
+    requires fits { count + width ≤ 64 }
+    requires narrow { width < 64 }
+    ensures value { result ≡ value * 2 ^ width + digits }
+    ensures below { result < 2 ^ (count + width) }
+{
+    value << width | digits
+}
+
+/// The last so many binary digits of a long number.
+#[inline]
+pub(crate) fn last_digits_wide(value: u64, count: u32) -> u64
+    requires { count < 64 }
+    ensures value { result ≡ value % 2 ^ count }
+    ensures below { result < 2 ^ count }
+{
+    value & ((1 << count) - 1)
+}
+
 impl Part {
     /// No digits.
     pub(crate) fn none() -> Part
@@ -38,6 +62,14 @@ impl Part {
         ensures digits { Holds result [] }
     {
         Part { value: 0, count: 0 }
+    }
+
+    /// Whether no digits are held.
+    #[inline]
+    pub(crate) fn is_empty(&self) -> bool
+        ensures { OnTrue result (self.now.count ≡ 0) }
+    {
+        self.count == 0
     }
 
     /// Puts so many digits behind those of the part, and takes out a group where it is whole.

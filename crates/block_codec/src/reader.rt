@@ -1,8 +1,10 @@
-ghost use Rattle.std.specs.Prelude.{◌≡◌, ℕ, ◌+◌, ◌^◌, ◌<◌, ◌≤◌, false, List, [], ◌∷◌, ◌++◌, length, vec_len, vec_capacity, IfOk, IfSome, IsTrue};
+ghost use Rattle.std.specs.Prelude.{◌≡◌, ℕ, ◌+◌, ◌^◌, ◌<◌, ◌≤◌, false, List, [], ◌∷◌, ◌++◌, length, take, vec_len, vec_capacity, IfOk, IfSome, IsTrue};
+ghost use Rattle.symbol_base.specs.Block.{symbols_of};
 ghost use Rattle.code_spec.specs.Code.{IsCode};
 ghost use Rattle.code_spec.specs.PlainReading.{is_blank};
 ghost use Rattle.block_codec.specs.inside.Readers.{IsReaderFor, HasSymbols, HasText, GoesOn, TakesPiece, IsFrontOf, IsBadByte, listed};
 
+use crate::digits::{digit_table, packed};
 use crate::part::Part;
 use crate::window_decoder::WindowDecoder;
 use code_model::Code;
@@ -15,6 +17,7 @@ pub(crate) struct Reader {
     blocks: WindowDecoder,
     symbols: Part,
     bits: Part,
+    digits: Vec<[u8; 8]>,
     count: u64,
 }
 
@@ -30,6 +33,7 @@ impl Reader {
             blocks: WindowDecoder::for_code(alloc, code)?,
             symbols: Part::none(),
             bits: Part::none(),
+            digits: digit_table(alloc)?,
             count: 0,
         })
     }
@@ -111,6 +115,42 @@ impl Reader {
         true
     }
 
+    /// Takes the digits of eight blocks at the front of a piece at once, where that can be done, and answers how many
+    /// bytes it took: none, or all of those.
+    #[inline]
+    fn take_group(&mut self, code: &Code, piece: &[u8], out: &mut Vec<u8>) -> usize
+        requires table { IsCode code.now }
+        requires code { IsReaderFor code.now self.old }
+        requires room { vec_len out.old + length piece.now ≤ vec_capacity out.old }
+        requires few { self.old.count + length piece.now < 2 ^ 63 }
+        ensures code { IsReaderFor code.now self.new }
+        ensures inside { result ≤ length piece.now }
+        ensures count { self.new.count ≤ self.old.count + result }
+        ensures len { vec_len out.new ≤ vec_len out.old + result }
+        ensures capacity { vec_capacity out.new ≡ vec_capacity out.old }
+        ensures front { IsFrontOf out.old.items out.new.items }
+        ensures text { (text bytes : List ℕ) → HasText code.now text bytes self.old
+            → GoesOn code.now text bytes (take result piece.now) out.old.items out.new.items self.new }
+    {
+        let size = 8 * code.q as usize;
+        if piece.len() < size || code.q > 7 || !self.symbols.is_empty() || !self.bits.is_empty() {
+            return 0;
+        }
+        let WindowDecoder::Short(decoder) = &mut self.blocks else {
+            return 0;
+        };
+        if !decoder.takes_eight(code) {
+            return 0;
+        }
+        let Some(blocks) = packed(self.digits.as_slice(), &piece[..size], code.q) else {
+            return 0;
+        };
+        let words = decoder.take_eight(code, blocks);
+        self.count += size as u64;
+        put_number(out, words, code.p);
+        size
+    }
+
     /// Takes a piece of a text up to its first byte that is neither a digit nor passed over, and
     /// answers where that stands.
     pub(crate) fn take_piece(
@@ -130,12 +170,32 @@ impl Reader {
         ensures text { (text bytes : List ℕ) → HasText code.now text bytes self.old
             → TakesPiece code.now text bytes piece.now out.old.items out.new.items self.new result }
     {
-        for i in 0..piece.len() {
-            if !self.take_byte(code, piece[i], out) {
-                return Some(i);
+        let mut at = 0;
+        while at < piece.len() {
+            let taken = self.take_group(code, &piece[at..], out);
+            if taken > 0 {
+                at += taken;
+            } else if self.take_byte(code, piece[at], out) {
+                at += 1;
+            } else {
+                return Some(at);
             }
         }
         None
+    }
+}
+
+/// Puts the bytes of a number behind the others, so many, the first most significant.
+#[inline]
+fn put_number(out: &mut Vec<u8>, number: u64, count: u32)
+    requires few { count ≤ 8 }
+    requires room { vec_len out.old + count ≤ vec_capacity out.old }
+    ensures items { out.new.items ≡ out.old.items ++ symbols_of 256 count number }
+    ensures capacity { vec_capacity out.new ≡ vec_capacity out.old }
+    ensures len { vec_len out.new ≡ vec_len out.old + count }
+{
+    for j in 0..count {
+        out.push_reserved((number >> (8 * (count - 1 - j)) & 0xff) as u8);
     }
 }
 

@@ -12,7 +12,7 @@ use symbol_base::{Block, CodeName, take_word};
 
 /// Puts the digits of a block of q symbols into the room, from place `at` on.
 #[inline]
-fn put_block(block: Block, q: u32, room: &mut [u8], at: usize)
+pub(crate) fn put_block(block: Block, q: u32, room: &mut [u8], at: usize)
     requires short { q ≤ 20 }
     requires room { at + q ≤ length room.old }
     ensures digits { take (at + q) room.new ≡ take at room.old ++ digits_of (symbols_of 2 q block.value) }

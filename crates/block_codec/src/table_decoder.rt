@@ -1,12 +1,15 @@
-ghost use Rattle.std.specs.Prelude.{◌≡◌, ◌<◌, ◌^◌, List, [], ◌∷◌, ◌++◌, IfOk, IfSome};
+ghost use Rattle.std.specs.Prelude.{◌≡◌, ℕ, ◌*◌, ◌<◌, ◌^◌, List, [], ◌∷◌, ◌++◌, IfOk, IfSome};
+ghost use Rattle.std.specs.Bool.{OnTrue};
 ghost use Rattle.symbol_base.specs.declared.Block.{Block};
+ghost use Rattle.symbol_base.specs.Block.{symbols_of};
 ghost use Rattle.code_spec.specs.Code.{IsDataWord};
+ghost use Rattle.code_spec.specs.Decoder.{AreDecoded};
 ghost use Rattle.block_codec.specs.Decoding.{IsAnswer};
-ghost use Rattle.block_codec.specs.inside.Answers.{HasShortWindows};
-ghost use Rattle.block_codec.specs.inside.TableDecoding.{IsTableDecoderFor, HasComeTo};
+ghost use Rattle.block_codec.specs.inside.Answers.{HasShortWindows, blocks_in};
+ghost use Rattle.block_codec.specs.inside.TableDecoding.{IsTableDecoderFor, HasComeTo, TakesEight};
 
-use crate::answers::{answer_table, window_length};
-use crate::part::{joined, last_digits};
+use crate::answers::{answer_table, eight_words, window_length};
+use crate::part::{joined, joined_wide, last_digits, last_digits_wide};
 use code_model::Code;
 use std::alloc::Global;
 use symbol_base::{Block, NoMemory};
@@ -59,5 +62,38 @@ impl TableDecoder {
         }
         self.count = length;
         Some(u32::from(self.answers[self.window as usize]))
+    }
+
+    /// Whether eight blocks can be taken at once: each of them ends a window, and they fit into a word of the
+    /// machine together with the blocks before them that they share windows with.
+    #[inline]
+    pub(crate) fn takes_eight(&self, code: &Code) -> bool
+        requires code { IsTableDecoderFor code.now self.now }
+        ensures { OnTrue result (TakesEight code.now self.now) }
+    {
+        let length = window_length(code);
+        length <= self.count + 1 && code.q * (length + 7) < 64
+    }
+
+    /// Takes the eight blocks of a number, and answers the data words of the windows that they end, as a number.
+    #[inline]
+    pub(crate) fn take_eight(&mut self, code: &Code, blocks: u64) -> u64
+        requires code { IsTableDecoderFor code.now self.old }
+        requires eight { TakesEight code.now self.old }
+        requires blocks { blocks < 2 ^ (code.now.q * 8) }
+        ensures code { IsTableDecoderFor code.now self.new }
+        ensures came { (came : List Block) → HasComeTo code.now self.old came
+            → HasComeTo code.now self.new (came ++ blocks_in code.now.q 8 blocks) }
+        ensures words { (came : List Block) (words : List ℕ) → HasComeTo code.now self.old came → AreDecoded code.now came words
+            → AreDecoded code.now (came ++ blocks_in code.now.q 8 blocks) (words ++ symbols_of (2 ^ code.now.p) 8 result) }
+        ensures below { result < 2 ^ (code.now.p * 8) }
+    {
+        let length = window_length(code);
+        let kept = code.q * (length - 1);
+        let before = last_digits_wide(u64::from(self.window), kept);
+        let here = joined_wide(before, kept, blocks, code.q * 8);
+        self.window = last_digits_wide(here, code.q * length) as u32;
+        self.count = length;
+        eight_words(code, self.answers.as_slice(), here)
     }
 }

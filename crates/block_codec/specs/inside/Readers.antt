@@ -7,6 +7,7 @@ use Rattle.code_spec.specs.PlainReading.{is_blank, IsDigit, IsChannelText, symbo
 use Rattle.block_codec.specs.declared.part.Part.{Part}
 use Rattle.block_codec.specs.declared.reader.Reader.{Reader}
 use Rattle.block_codec.specs.declared.window_decoder.WindowDecoder.{WindowDecoder}
+use Rattle.block_codec.specs.inside.Packing.{HasRows}
 use Rattle.block_codec.specs.inside.Parts.{IsPart, Holds}
 use Rattle.block_codec.specs.inside.WindowDecoding.{IsMadeFor, HaveCome}
 
@@ -15,6 +16,7 @@ pub record IsReaderFor (c : CodeData) (reader : Reader) : Type 0 where
   pub blocks : IsMadeFor c reader.blocks
   pub symbols : IsPart c.q reader.symbols
   pub bits : IsPart 8 reader.bits
+  pub digits : HasRows 256 reader.digits.items
 
 -- the bits of the words are those of the bytes and those that are held
 pub record HoldsBits (p : ℕ) (words bytes : List ℕ) (bits : Part) : Type 0 where

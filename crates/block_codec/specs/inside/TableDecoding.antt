@@ -1,5 +1,5 @@
 -- What has come to a decoder by a table.
-use Rattle.std.specs.Prelude.{◌≡◌, ℕ, ◌<◌, ◌≤◌, List, length, min}
+use Rattle.std.specs.Prelude.{◌≡◌, ℕ, ◌+◌, ◌*◌, ◌<◌, ◌≤◌, List, length, min}
 use Rattle.symbol_base.specs.declared.Block.{Block}
 use Rattle.code_spec.specs.Code.{CodeData}
 use Rattle.code_spec.specs.Decoder.{window_length}
@@ -18,3 +18,8 @@ pub record IsTableDecoderFor (c : CodeData) (decoder : TableDecoder) : Type 0 wh
 pub record HasComeTo (c : CodeData) (decoder : TableDecoder) (came : List Block) : Type 0 where
   pub last : window_of c decoder.window ≡ last_blocks (window_length c) came
   pub counted : decoder.count ≡ min (window_length c) (length came)
+
+-- all blocks of a window but the last have come, and a number of 64 digits holds them and eight more
+pub record TakesEight (c : CodeData) (decoder : TableDecoder) : Type 0 where
+  pub enough : window_length c ≤ decoder.count + 1
+  pub fits : c.q * (window_length c + 7) < 64

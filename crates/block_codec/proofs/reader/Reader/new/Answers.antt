@@ -7,6 +7,7 @@ returns-clause-code c = record {
   blocks = c.in_ok-for_code.ensures.code;
   symbols = part_of_more c.args.code.now.q c.none.result (omega (arith, c.requires.table.p.0, c.requires.table.q.0)) c.none.ensures.part;
   bits = part_of_more 8 c.none-2.result (omega arith) c.none-2.ensures.part;
+  digits = c.in_ok-digit_table.ensures;
 }
 
 pub returns-clause-text : goal.returns-clause-text

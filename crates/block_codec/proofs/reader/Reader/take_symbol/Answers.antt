@@ -21,7 +21,7 @@ returns-in_err-word-clause-symbols c = λ symbols bytes has.
     (subst (λ w. TakesOut c.code.inside.q (has.rest ++ symbols_of 2 1 symbol) c.add.new.self w) (sym c.from.ensures) (c.in_ok-whole.ensures.digits has.rest has.held)) in
     let came = c.in_err-word.ensures.came has.blocks has.decoded.came in
     let answer = c.in_err-word.ensures.answer has.blocks has.decoded.came in
-    let P : List ℕ → Type 0 = λ list. HasSymbols code (symbols ++ symbol ∷ []) list (record { blocks = c.take_block.new.self; symbols = c.add.new.self; bits = c.args.self.now.bits; count = c.args.self.now.count }) in
+    let P : List ℕ → Type 0 = λ list. HasSymbols code (symbols ++ symbol ∷ []) list (record { blocks = c.take_block.new.self; symbols = c.add.new.self; bits = c.args.self.now.bits; digits = c.args.self.now.digits; count = c.args.self.now.count }) in
     subst (λ (r : Option ℕ). P (bytes ++ listed r)) (sym c.from_residual-in_err-word.ensures)
     (subst P (sym (append-nil bytes))
     (record {

@@ -1,0 +1,41 @@
+use Rattle.std.proofs.Common.{◌≡◌, ◌+◌, ◌-◌, ◌*◌, ◌/◌, ◌%◌, ◌^◌, ◌<◌, sym, ap, subst, ◌∙◌, arith}
+use Rattle.code_spec.specs.Code.{CodeData}
+use Rattle.code_spec.specs.Decoder.{window_length, IsDecoded}
+use Rattle.code_spec.proofs.DecoderLaws.{decoded_below}
+use Rattle.block_codec.specs.inside.Answers.{window_of, window_count}
+use Rattle.block_codec.proofs.GroupLaws.{HasWords, words_more, words_all}
+use Rattle.block_codec.proofs.answers.eight_words.Goals as goal
+
+pub joined_wide-words-requires-clause-digits : goal.joined_wide-words-requires-clause-digits
+joined_wide-words-requires-clause-digits c =
+    let code = c.args.code.now in
+    let window = c.last_digits_wide-window.result in
+    let below : window < window_count code =
+    subst (λ (d : CodeData). window < 2 ^ (d.q * window_length code)) c.code.view_is (subst (λ n. window < 2 ^ (c.code.inside.q * n)) c.window_length.ensures.count c.last_digits_wide-window.ensures.below) in
+    let answer : IsDecoded code (window_of code window) c.from.result = subst (λ w. IsDecoded code (window_of code window) w) (sym c.from.ensures) (c.requires.table.answer window below) in
+    subst (λ (d : CodeData). c.from.result < 2 ^ d.p) (sym c.code.view_is) (decoded_below code (window_of code window) c.from.result answer)
+
+pub loop-k-preserved : goal.loop-k-preserved
+loop-k-preserved c =
+    let code = c.args.code.now in
+    let window = c.last_digits_wide-window.result in
+    let k = c.loop-k.k in
+    let words = c.loop-k.words in
+    let entry = c.from.result in
+    let more = c.joined_wide-words.result in
+    let below : window < window_count code =
+    subst (λ (d : CodeData). window < 2 ^ (d.q * window_length code)) c.code.view_is (subst (λ n. window < 2 ^ (c.code.inside.q * n)) c.window_length.ensures.count c.last_digits_wide-window.ensures.below) in
+    let answer : IsDecoded code (window_of code window) entry = subst (λ w. IsDecoded code (window_of code window) w) (sym c.from.ensures) (c.requires.table.answer window below) in
+    let window_is = c.last_digits_wide-window.ensures.value
+    ∙ ap (λ n. c.args.here / 2 ^ (c.code.inside.q * (7 - k)) % 2 ^ (c.code.inside.q * n)) c.window_length.ensures.count
+    ∙ ap (λ (d : CodeData). c.args.here / 2 ^ (d.q * (7 - k)) % 2 ^ (d.q * window_length code)) c.code.view_is in
+    let more_is = c.joined_wide-words.ensures.value ∙ ap (λ (d : CodeData). words * 2 ^ d.p + entry) c.code.view_is in
+    let size = code.p * k + code.p in
+    let whole : size ≡ code.p * (k + 1) = grind arith in
+    let small : more < 2 ^ size = subst (λ (d : CodeData). more < 2 ^ (d.p * k + d.p)) c.code.view_is c.joined_wide-words.ensures.below in
+    words_more code c.args.here k (7 - k) window words entry more (omega (arith, c.loop-k-test.true)) window_is answer more_is (subst (λ n. more < 2 ^ n) whole small) c.loop-k.invariant
+
+pub returns-clause-words : goal.returns-clause-words
+returns-clause-words c =
+    let end : c.loop-k.k ≡ 8 = omega (arith, c.loop-k-test.false, c.loop-k.auto.k-end) in
+    words_all c.args.code.now c.args.here c.loop-k.words (subst (λ n. HasWords c.args.code.now c.args.here n c.loop-k.words) end c.loop-k.invariant)

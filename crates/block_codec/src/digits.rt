@@ -1,0 +1,79 @@
+//! The digits of a text, eight at a time.
+
+ghost use Rattle.std.specs.Prelude.{◌≡◌, ◌*◌, ◌≤◌, length, IfOk, IfSome};
+ghost use Rattle.std.specs.Bool.{OnTrue};
+ghost use Rattle.symbol_base.specs.Block.{symbols_of};
+ghost use Rattle.block_codec.specs.inside.Digits.{digits_of};
+ghost use Rattle.block_codec.specs.inside.Packing.{IsPacked, HasRows};
+
+use crate::part::joined_wide;
+use crate::steps::put_block;
+use std::alloc::Global;
+use symbol_base::{Block, NoMemory};
+
+/// The eight digits of a byte.
+fn digits_of_byte(byte: u8) -> [u8; 8]
+    ensures { result ≡ digits_of (symbols_of 2 8 byte) }
+{
+    let mut digits = [b'0'; 8];
+    let block = Block {
+        value: u64::from(byte),
+    };
+    put_block(block, 8, &mut digits, 0);
+    digits
+}
+
+/// The eight digits of each byte.
+pub(crate) fn digit_table(alloc: Global) -> Result<Vec<[u8; 8]>, NoMemory>
+    ensures { IfOk result (λ table. HasRows 256 table.items) }
+{
+    let mut table = Vec::with_capacity(alloc, 256)?;
+    for byte in 0..256u32 {
+        table.push(digits_of_byte(byte as u8))?;
+    }
+    Ok(table)
+}
+
+/// The byte whose eight digits these are, where they are digits, and any byte where they aren't.
+///
+/// The product brings the last bit of each into the top byte. Nobody has to trust it, since the digits are then
+/// compared with those of the byte.
+#[inline]
+fn likely_byte(digits: &[u8]) -> u8
+    requires { length digits.now ≡ 8 }
+{
+    let value = u64::from_be_bytes([
+        digits[0], digits[1], digits[2], digits[3], digits[4], digits[5], digits[6], digits[7],
+    ]);
+    ((value & 0x0101_0101_0101_0101).wrapping_mul(0x0102_0408_1020_4080) >> 56) as u8
+}
+
+/// Whether these are the eight digits of the byte.
+#[inline]
+fn are_digits_of(table: &[[u8; 8]], byte: u8, digits: &[u8]) -> bool
+    requires { HasRows 256 table.now }
+    ensures { OnTrue result (digits.now ≡ digits_of (symbols_of 2 8 byte)) }
+{
+    table[usize::from(byte)].as_slice() == digits
+}
+
+/// The number whose binary digits these bytes are, so many times eight, where all are digits.
+#[inline]
+pub(crate) fn packed(table: &[[u8; 8]], digits: &[u8], eights: u32) -> Option<u64>
+    requires table { HasRows 256 table.now }
+    requires count { length digits.now ≡ 8 * eights }
+    requires short { eights ≤ 7 }
+    ensures { IfSome result (IsPacked (8 * eights) digits.now) }
+{
+    let mut value = 0;
+    for i in 0..eights {
+        let from = 8 * i as usize;
+        let eight = &digits[from..from + 8];
+        let byte = likely_byte(eight);
+        if !are_digits_of(table, byte, eight) {
+            return None;
+        }
+        value = joined_wide(value, 8 * i, u64::from(byte), 8);
+    }
+    Some(value)
+}
