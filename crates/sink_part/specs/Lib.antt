@@ -1,0 +1,2 @@
+pub mod inside
+pub use Rattle.label_graphs.specs.Sink

@@ -1,0 +1,14 @@
+//! The irreducible sink that a design begins with, and the sum of the weights that edges lead to.
+#![tactic(auto)]
+
+mod choice;
+mod leading;
+mod linking;
+mod parts;
+mod spreading;
+
+pub use parts::{SinkGraph, sink};
+pub use spreading::spread;
+
+#[cfg(test)]
+mod tests;
