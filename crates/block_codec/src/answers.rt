@@ -113,19 +113,24 @@ pub(crate) fn answer_table(alloc: Global, code: &Code) -> Result<Vec<u8>, NoMemo
 }
 
 /// The answers to the eight windows of a number, as a number: the first window ends with its eighth last block.
-#[inline]
-pub(crate) fn eight_words(code: &Code, table: &[u8], here: u64) -> u64
+///
+/// The code's p and q are passed as numbers, so that a caller that knows them has its shifts fixed.
+#[inline(always)]
+pub(crate) fn eight_words(code: &Code, p: u32, q: u32, table: &[u8], here: u64) -> u64
+    requires p { p ≡ code.now.p }
+    requires few { p ≤ 8 }
+    requires q { q ≡ code.now.q }
     requires table { IsAnswerTable code.now table.now }
     requires fits { code.now.q * (window_length code.now + 7) < 64 }
     ensures words { AreDecoded code.now (blocks_in code.now.q (window_length code.now + 7) here) (symbols_of (2 ^ code.now.p) 8 result) }
     ensures below { result < 2 ^ (code.now.p * 8) }
 {
-    let size = code.q * window_length(code);
+    let size = q * window_length(code);
     let mut words = 0;
     for k in 0..8 {
-        let window = last_digits_wide(here >> (code.q * (7 - k)), size);
+        let window = last_digits_wide(here >> (q * (7 - k)), size);
         let word = table[window as usize];
-        words = joined_wide(words, code.p * k, u64::from(word), code.p);
+        words = joined_wide(words, p * k, u64::from(word), p);
     }
     words
 }

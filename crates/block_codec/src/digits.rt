@@ -2,6 +2,7 @@
 
 ghost use Rattle.std.specs.Prelude.{◌≡◌, ◌*◌, ◌≤◌, length, IfOk, IfSome};
 ghost use Rattle.std.specs.Bool.{OnTrue};
+ghost use Rattle.std.specs.Int.{w64, from_be_bytes};
 ghost use Rattle.symbol_base.specs.Block.{symbols_of};
 ghost use Rattle.block_codec.specs.inside.Digits.{digits_of};
 ghost use Rattle.block_codec.specs.inside.Packing.{IsPacked, HasRows};
@@ -23,43 +24,53 @@ fn digits_of_byte(byte: u8) -> [u8; 8]
     digits
 }
 
-/// The eight digits of each byte.
-pub(crate) fn digit_table(alloc: Global) -> Result<Vec<[u8; 8]>, NoMemory>
+/// Eight bytes as a number, the first most significant.
+#[inline]
+fn number_of_eight(bytes: &[u8]) -> u64
+    requires { length bytes.now ≡ 8 }
+    ensures { result ≡ from_be_bytes w64 bytes.now }
+{
+    u64::from_be_bytes([
+        bytes[0], bytes[1], bytes[2], bytes[3], bytes[4], bytes[5], bytes[6], bytes[7],
+    ])
+}
+
+/// The eight digits of each byte, as numbers.
+pub(crate) fn digit_table(alloc: Global) -> Result<Vec<u64>, NoMemory>
     ensures { IfOk result (λ table. HasRows 256 table.items) }
 {
     let mut table = Vec::with_capacity(alloc, 256)?;
     for byte in 0..256u32 {
-        table.push(digits_of_byte(byte as u8))?;
+        table.push(u64::from_be_bytes(digits_of_byte(byte as u8)))?;
     }
     Ok(table)
 }
 
 /// The byte whose eight digits these are, where they are digits, and any byte where they aren't.
 ///
-/// The product brings the last bit of each into the top byte. Nobody has to trust it, since the digits are then
+/// The product brings the last bit of each into the top byte. Nothing rests on it, since the digits are then
 /// compared with those of the byte.
 #[inline]
 fn likely_byte(digits: &[u8]) -> u8
     requires { length digits.now ≡ 8 }
 {
-    let value = u64::from_be_bytes([
-        digits[0], digits[1], digits[2], digits[3], digits[4], digits[5], digits[6], digits[7],
-    ]);
-    ((value & 0x0101_0101_0101_0101).wrapping_mul(0x0102_0408_1020_4080) >> 56) as u8
+    let bits = number_of_eight(digits) & 0x0101_0101_0101_0101;
+    (bits.wrapping_mul(0x0102_0408_1020_4080) >> 56) as u8
 }
 
 /// Whether these are the eight digits of the byte.
 #[inline]
-fn are_digits_of(table: &[[u8; 8]], byte: u8, digits: &[u8]) -> bool
-    requires { HasRows 256 table.now }
+fn are_digits_of(table: &[u64], byte: u8, digits: &[u8]) -> bool
+    requires table { HasRows 256 table.now }
+    requires eight { length digits.now ≡ 8 }
     ensures { OnTrue result (digits.now ≡ digits_of (symbols_of 2 8 byte)) }
 {
-    table[usize::from(byte)].as_slice() == digits
+    table[usize::from(byte)] == number_of_eight(digits)
 }
 
 /// The number whose binary digits these bytes are, so many times eight, where all are digits.
-#[inline]
-pub(crate) fn packed(table: &[[u8; 8]], digits: &[u8], eights: u32) -> Option<u64>
+#[inline(always)]
+pub(crate) fn packed(table: &[u64], digits: &[u8], eights: u32) -> Option<u64>
     requires table { HasRows 256 table.now }
     requires count { length digits.now ≡ 8 * eights }
     requires short { eights ≤ 7 }

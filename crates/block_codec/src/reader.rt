@@ -17,7 +17,7 @@ pub(crate) struct Reader {
     blocks: WindowDecoder,
     symbols: Part,
     bits: Part,
-    digits: Vec<[u8; 8]>,
+    digits: Vec<u64>,
     count: u64,
 }
 
@@ -116,7 +116,52 @@ impl Reader {
     }
 
     /// Takes the digits of eight blocks at the front of a piece at once, where that can be done, and answers how many
-    /// bytes it took: none, or all of those.
+    /// bytes it took: none, or all of those. The code's p and q are passed as numbers.
+    #[inline(always)]
+    fn take_eight_blocks(
+        &mut self,
+        code: &Code,
+        p: u32,
+        q: u32,
+        piece: &[u8],
+        out: &mut Vec<u8>,
+    ) -> usize
+        requires p { p ≡ code.now.p }
+        requires q { q ≡ code.now.q }
+        requires table { IsCode code.now }
+        requires code { IsReaderFor code.now self.old }
+        requires room { vec_len out.old + length piece.now ≤ vec_capacity out.old }
+        requires few { self.old.count + length piece.now < 2 ^ 63 }
+        ensures code { IsReaderFor code.now self.new }
+        ensures inside { result ≤ length piece.now }
+        ensures count { self.new.count ≤ self.old.count + result }
+        ensures len { vec_len out.new ≤ vec_len out.old + result }
+        ensures capacity { vec_capacity out.new ≡ vec_capacity out.old }
+        ensures front { IsFrontOf out.old.items out.new.items }
+        ensures text { (text bytes : List ℕ) → HasText code.now text bytes self.old
+            → GoesOn code.now text bytes (take result piece.now) out.old.items out.new.items self.new }
+    {
+        let size = 8 * q as usize;
+        if piece.len() < size || q > 7 || !self.symbols.is_empty() || !self.bits.is_empty() {
+            return 0;
+        }
+        let WindowDecoder::Short(decoder) = &mut self.blocks else {
+            return 0;
+        };
+        if !decoder.takes_eight(code, q) {
+            return 0;
+        }
+        let Some(blocks) = packed(self.digits.as_slice(), &piece[..size], q) else {
+            return 0;
+        };
+        let words = decoder.take_eight(code, p, q, blocks);
+        self.count += size as u64;
+        put_number(out, words, p);
+        size
+    }
+
+    /// Takes the digits of eight blocks at the front of a piece at once, where that can be done, and answers how many
+    /// bytes it took: none, or all of those. The usual rates have their own code, in which shifts are fixed.
     #[inline]
     fn take_group(&mut self, code: &Code, piece: &[u8], out: &mut Vec<u8>) -> usize
         requires table { IsCode code.now }
@@ -132,23 +177,13 @@ impl Reader {
         ensures text { (text bytes : List ℕ) → HasText code.now text bytes self.old
             → GoesOn code.now text bytes (take result piece.now) out.old.items out.new.items self.new }
     {
-        let size = 8 * code.q as usize;
-        if piece.len() < size || code.q > 7 || !self.symbols.is_empty() || !self.bits.is_empty() {
-            return 0;
+        if code.p == 2 && code.q == 3 {
+            return self.take_eight_blocks(code, 2, 3, piece, out);
         }
-        let WindowDecoder::Short(decoder) = &mut self.blocks else {
-            return 0;
-        };
-        if !decoder.takes_eight(code) {
-            return 0;
+        if code.p == 1 && code.q == 2 {
+            return self.take_eight_blocks(code, 1, 2, piece, out);
         }
-        let Some(blocks) = packed(self.digits.as_slice(), &piece[..size], code.q) else {
-            return 0;
-        };
-        let words = decoder.take_eight(code, blocks);
-        self.count += size as u64;
-        put_number(out, words, code.p);
-        size
+        self.take_eight_blocks(code, code.p, code.q, piece, out)
     }
 
     /// Takes a piece of a text up to its first byte that is neither a digit nor passed over, and
@@ -186,7 +221,7 @@ impl Reader {
 }
 
 /// Puts the bytes of a number behind the others, so many, the first most significant.
-#[inline]
+#[inline(always)]
 fn put_number(out: &mut Vec<u8>, number: u64, count: u32)
     requires few { count ≤ 8 }
     requires room { vec_len out.old + count ≤ vec_capacity out.old }

@@ -1,4 +1,4 @@
-ghost use Rattle.std.specs.Prelude.{◌≡◌, ℕ, ◌*◌, ◌<◌, ◌^◌, List, [], ◌∷◌, ◌++◌, IfOk, IfSome};
+ghost use Rattle.std.specs.Prelude.{◌≡◌, ℕ, ◌*◌, ◌<◌, ◌≤◌, ◌^◌, List, [], ◌∷◌, ◌++◌, IfOk, IfSome};
 ghost use Rattle.std.specs.Bool.{OnTrue};
 ghost use Rattle.symbol_base.specs.declared.Block.{Block};
 ghost use Rattle.symbol_base.specs.Block.{symbols_of};
@@ -66,19 +66,23 @@ impl TableDecoder {
 
     /// Whether eight blocks can be taken at once: each of them ends a window, and they fit into a word of the
     /// machine together with the blocks before them that they share windows with.
-    #[inline]
-    pub(crate) fn takes_eight(&self, code: &Code) -> bool
+    #[inline(always)]
+    pub(crate) fn takes_eight(&self, code: &Code, q: u32) -> bool
         requires code { IsTableDecoderFor code.now self.now }
+        requires q { q ≡ code.now.q }
         ensures { OnTrue result (TakesEight code.now self.now) }
     {
         let length = window_length(code);
-        length <= self.count + 1 && code.q * (length + 7) < 64
+        length <= self.count + 1 && q * (length + 7) < 64
     }
 
     /// Takes the eight blocks of a number, and answers the data words of the windows that they end, as a number.
-    #[inline]
-    pub(crate) fn take_eight(&mut self, code: &Code, blocks: u64) -> u64
+    #[inline(always)]
+    pub(crate) fn take_eight(&mut self, code: &Code, p: u32, q: u32, blocks: u64) -> u64
         requires code { IsTableDecoderFor code.now self.old }
+        requires p { p ≡ code.now.p }
+        requires few { p ≤ 8 }
+        requires q { q ≡ code.now.q }
         requires eight { TakesEight code.now self.old }
         requires blocks { blocks < 2 ^ (code.now.q * 8) }
         ensures code { IsTableDecoderFor code.now self.new }
@@ -89,11 +93,11 @@ impl TableDecoder {
         ensures below { result < 2 ^ (code.now.p * 8) }
     {
         let length = window_length(code);
-        let kept = code.q * (length - 1);
+        let kept = q * (length - 1);
         let before = last_digits_wide(u64::from(self.window), kept);
-        let here = joined_wide(before, kept, blocks, code.q * 8);
-        self.window = last_digits_wide(here, code.q * length) as u32;
+        let here = joined_wide(before, kept, blocks, q * 8);
+        self.window = last_digits_wide(here, q * length) as u32;
         self.count = length;
-        eight_words(code, self.answers.as_slice(), here)
+        eight_words(code, p, q, self.answers.as_slice(), here)
     }
 }

@@ -15,12 +15,12 @@ returns-clause-came c = λ came before.
     let self = c.args.self.now in
     let here = c.joined_wide-here.result in
     let count = c.window_length-length.ensures.count in
-    let same = ap (λ (d : CodeData). d.q) c.code.view_is in
+    let same = c.requires.q in
     let long : window_length code ≤ length came + 1 = omega (arith, c.requires.eight.enough, before.counted) in
-    let low = c.last_digits_wide-before.ensures.value ∙ ap (λ n. n % 2 ^ (c.code.inside.q * (c.window_length-length.result - 1))) c.from.ensures in
-    let here_is = here_made code c.code.inside.q c.window_length-length.result self.window c.last_digits_wide-before.result here c.args.blocks same count low c.joined_wide-here.ensures.value in
+    let low = c.last_digits_wide-before.ensures.value ∙ ap (λ n. n % 2 ^ (c.args.q * (c.window_length-length.result - 1))) c.from.ensures in
+    let here_is = here_made code c.args.q c.window_length-length.result self.window c.last_digits_wide-before.result here c.args.blocks same count low c.joined_wide-here.ensures.value in
     let joined = blocks_joined code self.window c.args.blocks here came c.requires.blocks long before.last here_is in
-    let new_is = c.last_digits_wide.ensures.value ∙ ap (λ n. here % 2 ^ (c.code.inside.q * n)) count ∙ ap (λ (d : CodeData). here % 2 ^ (d.q * window_length code)) c.code.view_is in
+    let new_is = c.last_digits_wide.ensures.value ∙ ap (λ n. here % 2 ^ (c.args.q * n)) count ∙ ap (λ n. here % 2 ^ (n * window_length code)) same in
     record { last = window_of_eight code c.args.blocks here c.last_digits_wide.result came long joined new_is; counted = omega (arith, count, long, length-append came (blocks_in code.q 8 c.args.blocks), length-blocks_in code.q 8 c.args.blocks) }
 
 pub returns-clause-words : goal.returns-clause-words
@@ -29,10 +29,10 @@ returns-clause-words c = λ came words before decoded.
     let self = c.args.self.now in
     let here = c.joined_wide-here.result in
     let count = c.window_length-length.ensures.count in
-    let same = ap (λ (d : CodeData). d.q) c.code.view_is in
+    let same = c.requires.q in
     let long : window_length code ≤ length came + 1 = omega (arith, c.requires.eight.enough, before.counted) in
-    let low = c.last_digits_wide-before.ensures.value ∙ ap (λ n. n % 2 ^ (c.code.inside.q * (c.window_length-length.result - 1))) c.from.ensures in
-    let here_is = here_made code c.code.inside.q c.window_length-length.result self.window c.last_digits_wide-before.result here c.args.blocks same count low c.joined_wide-here.ensures.value in
+    let low = c.last_digits_wide-before.ensures.value ∙ ap (λ n. n % 2 ^ (c.args.q * (c.window_length-length.result - 1))) c.from.ensures in
+    let here_is = here_made code c.args.q c.window_length-length.result self.window c.last_digits_wide-before.result here c.args.blocks same count low c.joined_wide-here.ensures.value in
     let joined = blocks_joined code self.window c.args.blocks here came c.requires.blocks long before.last here_is in
     decoded_joined code came (blocks_in code.q 8 c.args.blocks) words (symbols_of (2 ^ code.p) 8 c.eight_words.result) long decoded
     (subst (λ (bs : List Block). AreDecoded code bs (symbols_of (2 ^ code.p) 8 c.eight_words.result)) joined c.eight_words.ensures.words)

@@ -7,7 +7,7 @@ use Rattle.block_codec.specs.inside.Packing.{IsPacked}
 use Rattle.block_codec.specs.inside.WindowDecoding.{HaveCome}
 use Rattle.block_codec.proofs.ReaderLaws.{goes_nowhere}
 use Rattle.block_codec.proofs.GroupLaws.{same_blocks, group_goes_on}
-use Rattle.block_codec.proofs.reader.Reader.take_group.Goals as goal
+use Rattle.block_codec.proofs.reader.Reader.take_eight_blocks.Goals as goal
 
 pub returns-then-not-takes_eight-clause-text : goal.returns-then-not-takes_eight-clause-text
 returns-then-not-takes_eight-clause-text c = λ text bytes has.
@@ -21,10 +21,10 @@ pub returns-clause-text : goal.returns-clause-text
 returns-clause-text c = λ text bytes has.
     let code = c.args.code.now in
     let self = c.args.self.now in
-    let q : 8 * c.code.inside.q ≡ code.q * 8 = omega (arith, ap (λ (d : CodeData). d.q) c.code.view_is) in
-    let packed : IsPacked (code.q * 8) (take (8 * c.code.inside.q) c.args.piece.now) c.in-Some.blocks = subst (λ n. IsPacked n (take (8 * c.code.inside.q) c.args.piece.now) c.in-Some.blocks) q c.in-Some.ensures in
-    group_goes_on code text bytes (take (8 * c.code.inside.q) c.args.piece.now) c.args.out.now.items c.put_number.new.out.items self _ c.in-Some.blocks c.take_eight-words.result
+    let q : 8 * c.args.q ≡ code.q * 8 = omega (arith, c.requires.q) in
+    let packed : IsPacked (code.q * 8) (take (8 * c.args.q) c.args.piece.now) c.in-Some.blocks = subst (λ n. IsPacked n (take (8 * c.args.q) c.args.piece.now) c.in-Some.blocks) q c.in-Some.ensures in
+    group_goes_on code text bytes (take (8 * c.args.q) c.args.piece.now) c.args.out.now.items c.put_number.new.out.items self _ c.in-Some.blocks c.take_eight-words.result
     c.requires.table.alphabet (omega (arith, c.requires.table.p.0, c.requires.table.q.0)) packed c.if-not-is_empty.ensures c.if-not-is_empty-2.ensures refl refl (omega (arith, q))
     (λ came h. c.take_eight-words.ensures.came came (subst (λ (b : WindowDecoder). HaveCome code b came) c.in-Short.is h))
     (λ came before h decoded. c.take_eight-words.ensures.words came before (subst (λ (b : WindowDecoder). HaveCome code b came) c.in-Short.is h) decoded)
-    (c.put_number.ensures.items ∙ ap (λ (d : CodeData). c.args.out.now.items ++ symbols_of 256 d.p c.take_eight-words.result) c.code.view_is) has
+    (c.put_number.ensures.items ∙ ap (λ n. c.args.out.now.items ++ symbols_of 256 n c.take_eight-words.result) c.requires.p) has
