@@ -9,24 +9,24 @@ use Rattle.code_spec.specs.Decoder.{window_length, IsDecoded}
 use Rattle.block_codec.specs.Decoding.{block_of, last_blocks}
 
 -- each block but the first moved by one place, and one more at the end
-pub moved_whole : (old now : List Block) (i : ℕ) (block : Block) → 0 < length old → length now ≡ length old → length old - 1 ≤ i
-    → ((k : ℕ) → k < i → get_or now k (block_of 0) ≡ get_or old (k + 1) (block_of 0)) → set now (length old - 1) block ≡ drop 1 old ++ block ∷ []
-moved_whole old now i block some count end moved =
+pub moved_whole : {A : Type 0} (none : A) (old now : List A) (i : ℕ) (item : A) → 0 < length old → length now ≡ length old → length old - 1 ≤ i
+    → ((k : ℕ) → k < i → get_or now k none ≡ get_or old (k + 1) none) → set now (length old - 1) item ≡ drop 1 old ++ item ∷ []
+moved_whole none old now i item some count end moved =
     let last = length old - 1 in
-    let left : length (set now last block) ≡ length old = length-set now last block ∙ count in
+    let left : length (set now last item) ≡ length old = length-set now last item ∙ count in
     let short : length (drop 1 old) ≡ last = length-drop 1 old in
-    let right : length (drop 1 old ++ block ∷ []) ≡ length old = omega (arith, length-append (drop 1 old) (block ∷ []), short, some) in
-    ext_get_or (block_of 0) (set now last block) (drop 1 old ++ block ∷ []) (left ∙ sym right)
+    let right : length (drop 1 old ++ item ∷ []) ≡ length old = omega (arith, length-append (drop 1 old) (item ∷ []), short, some) in
+    ext_get_or none (set now last item) (drop 1 old ++ item ∷ []) (left ∙ sym right)
     (λ k inside.
     ⊎_elim
     (λ (here : k ≡ last).
-    subst (λ (n : ℕ). get_or (set now last block) n (block_of 0) ≡ get_or (drop 1 old ++ block ∷ []) n (block_of 0)) (sym here)
-    (get_or-set_same now last block (block_of 0) (omega (arith, some, count)) ∙ sym (get_or_push (drop 1 old) block (block_of 0) last short)))
+    subst (λ (n : ℕ). get_or (set now last item) n none ≡ get_or (drop 1 old ++ item ∷ []) n none) (sym here)
+    (get_or-set_same now last item none (omega (arith, some, count)) ∙ sym (get_or_push (drop 1 old) item none last short)))
     (λ (there : k ≡ last → ⊥).
     let before : k < last = omega (arith, inside, left, there) in
     let next : k + 1 ≡ 1 + k = omega arith in
-    get_or-set_other now last k block (block_of 0) there ∙ moved k (omega (arith, before, end)) ∙ ap (λ (n : ℕ). get_or old n (block_of 0)) next ∙ sym (get_or-drop 1 old k (block_of 0))
-    ∙ sym (get_or_append_left (drop 1 old) (block ∷ []) (block_of 0) k (omega (arith, before, short))))
+    get_or-set_other now last k item none there ∙ moved k (omega (arith, before, end)) ∙ ap (λ (n : ℕ). get_or old n none) next ∙ sym (get_or-drop 1 old k none)
+    ∙ sym (get_or_append_left (drop 1 old) (item ∷ []) none k (omega (arith, before, short))))
     (cases_eq k last))
 
 -- the window and the count of a decoder to which these blocks have come

@@ -13,3 +13,4 @@ pub mod PutLaws
 pub mod ReaderLaws
 pub mod SetLaws
 pub mod TextLaws
+pub mod WalkingLaws

@@ -9,4 +9,6 @@ pub mod Rooms
 pub mod Sets
 pub mod TableDecoding
 pub mod Tables
+pub mod WalkDecoding
+pub mod Walking
 pub mod WindowDecoding

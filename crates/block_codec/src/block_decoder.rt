@@ -1,6 +1,7 @@
-ghost use Rattle.std.specs.Prelude.{◌≡◌, ◌+◌, ◌<◌, List, [], ◌∷◌, ◌++◌, length, drop, min, IfOk, IfSome};
+ghost use Rattle.std.specs.Prelude.{◌≡◌, ◌+◌, ◌<◌, ◌≤◌, ◌↔◌, List, [], ◌∷◌, ◌++◌, length, drop, min, IfOk, IfSome, IsTrue};
 ghost use Rattle.symbol_base.specs.declared.Block.{Block};
 ghost use Rattle.code_spec.specs.Code.{CodeData, IsDataWord};
+ghost use Rattle.code_spec.specs.Decoder.{window_length};
 ghost use Rattle.block_codec.specs.Decoding.{IsDecoderFor, HasCome, IsAnswer};
 
 use crate::window::decode_window;
@@ -75,13 +76,33 @@ impl BlockDecoder {
         ensures answer { (came : List Block) → HasCome code.now self.old came → IsAnswer code.now (came ++ block ∷ []) result }
         ensures small { IfSome result (IsDataWord code.now) }
     {
-        let count = code.past + 1 + code.ahead;
-        move_in(&mut self.window, block);
-        self.count = one_more(self.count, count);
-        if self.count < count {
+        if !self.put(code, block) {
             return None;
         }
         Some(decode_window(code, &self.window))
+    }
+
+    /// Puts a block behind the others, and answers whether as many have come as a window has.
+    #[inline]
+    pub(crate) fn put(&mut self, code: &Code, block: Block) -> bool
+        requires code { IsDecoderFor code.now self.old }
+        ensures code { IsDecoderFor code.now self.new }
+        ensures window { self.new.window.items ≡ drop 1 self.old.window.items ++ block ∷ [] }
+        ensures came { (came : List Block) → HasCome code.now self.old came → HasCome code.now self.new (came ++ block ∷ []) }
+        ensures full { IsTrue result ↔ (window_length code.now ≤ self.new.count) }
+    {
+        let count = code.past + 1 + code.ahead;
+        move_in(&mut self.window, block);
+        self.count = one_more(self.count, count);
+        self.count >= count
+    }
+
+    /// The last blocks that have come, as many as a window has.
+    #[inline]
+    pub(crate) fn window(&self) -> &[Block]
+        ensures { result.now ≡ self.now.window.items }
+    {
+        &self.window
     }
 
     /// Forgets the blocks that have come.

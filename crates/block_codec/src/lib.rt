@@ -2,6 +2,7 @@
 #![tactic(auto)]
 
 mod answers;
+mod arc_table;
 mod block_decoder;
 mod bytes;
 mod counts;
@@ -15,10 +16,13 @@ mod pieces;
 mod reader;
 mod state_sets;
 mod steps;
+mod survivors;
 mod table;
 mod table_decoder;
 mod text_decoder;
 mod text_writer;
+mod walk;
+mod walk_decoder;
 mod window;
 mod window_decoder;
 mod words;

@@ -1,7 +1,9 @@
 ghost use Rattle.std.specs.Prelude.{◌≡◌, ◌≤◌, ◌^◌, length, IfOk};
 
 use crate::answers::{answer_table, has_short_windows};
+use crate::block_decoder::BlockDecoder;
 use crate::reader::Reader;
+use crate::walk_decoder::WalkDecoder;
 use crate::window::decode_window;
 use crate::{TextWriter, block_count, symbol_count};
 use code_model::{Code, CodeRow};
@@ -301,4 +303,43 @@ fn texts_of_known_codes_give_their_files(rt: HostRuntime) -> Result<(), Fail> {
     is_file(&rt, alloc, &code, b"10100100010100101001\n", 6, b"\xb1")?;
     let code = three_bits(alloc)?;
     is_file(&rt, alloc, &code, b"111111110\n", 4, b"\xff")
+}
+
+/// Gives both decoders the blocks of all octal numbers of four digits, one behind the other, and shows that
+/// they answer alike: all windows of three blocks stand among them, behind right blocks and behind wrong ones.
+#[test]
+fn walks_answer_as_the_definition(rt: HostRuntime) -> Result<(), Fail> {
+    let alloc = rt.alloc();
+    let code = no_two_zeros(alloc)?;
+    let mut walks = WalkDecoder::for_code(alloc, &code)?;
+    let mut plain = BlockDecoder::for_code(alloc, &code)?;
+    for digit in 0..4 * 4096u32 {
+        let number = digit / 4;
+        let block = Block {
+            value: u64::from(number >> (3 * (digit % 4)) & 7),
+        };
+        assert!(rt; walks.take_block(&code, block) == plain.take_block(&code, block));
+    }
+    Ok(())
+}
+
+/// A walk that is found anew behind a wrong block, by known blocks of a code whose windows look back.
+#[test]
+fn walks_are_found_again_behind_a_wrong_block(rt: HostRuntime) -> Result<(), Fail> {
+    let alloc = rt.alloc();
+    let code = mfm(alloc)?;
+    let mut decoder = WalkDecoder::for_code(alloc, &code)?;
+    for (value, word) in [
+        (2, None),
+        (2, None),
+        (1, Some(1)),
+        (3, Some(0)),
+        (0, Some(0)),
+        (2, Some(0)),
+        (1, Some(1)),
+        (0, Some(0)),
+    ] {
+        assert!(rt; decoder.take_block(&code, Block { value }) == word);
+    }
+    Ok(())
 }

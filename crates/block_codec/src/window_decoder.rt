@@ -5,8 +5,8 @@ ghost use Rattle.block_codec.specs.Decoding.{IsAnswer};
 ghost use Rattle.block_codec.specs.inside.WindowDecoding.{IsMadeFor, HaveCome};
 
 use crate::answers::has_short_windows;
-use crate::block_decoder::BlockDecoder;
 use crate::table_decoder::TableDecoder;
+use crate::walk_decoder::WalkDecoder;
 use code_model::Code;
 use std::alloc::Global;
 use symbol_base::{Block, NoMemory};
@@ -16,8 +16,8 @@ use symbol_base::{Block, NoMemory};
 pub(crate) enum WindowDecoder {
     /// By a table, where windows are short.
     Short(TableDecoder),
-    /// By the definition.
-    Long(BlockDecoder),
+    /// By a walk over the last blocks.
+    Long(WalkDecoder),
 }
 
 impl WindowDecoder {
@@ -29,7 +29,7 @@ impl WindowDecoder {
         if has_short_windows(code) {
             return Ok(WindowDecoder::Short(TableDecoder::for_code(alloc, code)?));
         }
-        Ok(WindowDecoder::Long(BlockDecoder::for_code(alloc, code)?))
+        Ok(WindowDecoder::Long(WalkDecoder::for_code(alloc, code)?))
     }
 
     /// Takes a block, and answers the data word of the window that it ends; none while fewer blocks than
