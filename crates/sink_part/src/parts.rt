@@ -25,8 +25,8 @@ pub struct SinkGraph {
     pub parents: Refinement<SplitName, CoverName>,
 }
 
-/// The irreducible sink that a design begins with (Marcus, Roth, Siegel, chapter 3: irreducible
-/// components).
+/// The irreducible sink that a design begins with (Marcus, Roth, Siegel, chapter 2: irreducible sinks;
+/// chapter 5: their use in state splitting).
 ///
 /// A sink is a set of states of positive weight, each of which leads to each through such states,
 /// and from which no edge leads to such a state outside. Of all sinks the one with the least sum of

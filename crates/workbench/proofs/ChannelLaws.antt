@@ -1,5 +1,5 @@
 -- What `encode` writes is a word of the constraint that its code keeps.
-use Rattle.std.proofs.Common.{◌≡◌, ℕ, List, Option, Some, None, Result, Ok, Err, refl, sym, ap, ◌∙◌, subst}
+use Rattle.std.proofs.Common.{◌≡◌, ℕ, List, Option, Some, None, Ok, refl, sym, ap, ◌∙◌, subst}
 use Rattle.std.specs.Prelude.{option_map, IsSomeAnd}
 use Rattle.shelf_io.specs.Shelf.{Files, OnFile, with_file}
 use Rattle.shelf_io.proofs.ShelfLemmas.{same_name}
@@ -9,7 +9,6 @@ use Rattle.code_spec.specs.PlainText.{data_words, plain_symbols, plain_text}
 use Rattle.code_spec.proofs.DataWords.{data_words_below}
 use Rattle.code_text_spec.specs.CodeText.{IsCodeText}
 use Rattle.command_steps.specs.declared.status.Status.{Status}
-use Rattle.command_steps.specs.declared.status.Status.TheVariants.{Done}
 use Rattle.command_steps.specs.Step.{Gives, gives, goes_on, holds, understood, found}
 use Rattle.command_steps.specs.Promise.{Seen}
 use Rattle.command_steps.specs.Answer.{Answer, writes, with_output}

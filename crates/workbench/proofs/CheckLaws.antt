@@ -1,5 +1,5 @@
 -- What checking a code says of the step that it is, and that the step has one outcome.
-use Rattle.std.proofs.Common.{◌≡◌, ℕ, List, length, Ok, Err, inl, inr, sym, ◌∙◌}
+use Rattle.std.proofs.Common.{◌≡◌, length, Ok, Err, inl, inr, sym, ◌∙◌}
 use Rattle.std.specs.Prelude.{◌≢◌}
 use Rattle.constraint_spec.specs.Constraint.{IsWordOf}
 use Rattle.label_graphs.specs.Graph.{HasEdge}
@@ -14,7 +14,6 @@ use Rattle.code_check.proofs.OneAnswer.{OneCover, checked_has_none, one_fault}
 use Rattle.command_steps.specs.declared.status.CodeFault.TheVariants.{OutOfConstraint, Ambiguous}
 use Rattle.command_steps.specs.declared.status.Limit.TheVariants.{RawStates, CoverStates}
 use Rattle.command_steps.specs.declared.status.Status.{Status}
-use Rattle.command_steps.specs.declared.status.Status.TheVariants.{TooLarge, CodeRefused}
 use Rattle.command_steps.specs.Step.{IsSingle}
 use Rattle.command_steps.specs.Promise.{IsRefusal, Decides, memory_alone}
 use Rattle.command_steps.proofs.StepLaws.{reads_value, reads_fault, reads_is_single, too_large_is_refusal, code_refused_is_refusal}

@@ -1,5 +1,5 @@
 -- What reading a code file says of the step that it is.
-use Rattle.std.proofs.Common.{ℕ, List, Result, Ok, Err}
+use Rattle.std.proofs.Common.{ℕ, List, Ok, Err}
 use Rattle.code_spec.specs.Code.{CodeData}
 use Rattle.code_text_spec.specs.CodeText.{IsCodeText}
 use Rattle.code_text_spec.specs.LineRules.{IsWrongLine}

@@ -1,13 +1,12 @@
 -- What a text gives under a checked code is one, and the decoder gives it.
-use Rattle.std.proofs.Common.{◌≡◌, ℕ, List, [], ◌++◌, length, drop, arith, Option, Some, None, Result, Ok, Err, refl, sym, ap, ◌∙◌, subst}
+use Rattle.std.proofs.Common.{◌≡◌, ℕ, List, [], length, drop, arith, Option, Result, Ok, Err, sym, ap, subst}
 use Rattle.shelf_io.specs.Shelf.{Files}
 use Rattle.code_spec.specs.declared.fault.EndFault.{EndFault}
 use Rattle.code_spec.specs.declared.fault.EndFault.TheVariants as ends
 use Rattle.code_spec.specs.Code.{CodeData}
 use Rattle.code_spec.specs.Checked.{IsCheckedCode}
-use Rattle.code_spec.specs.PlainReading.{IsBadAt, IsPlainFront, ReadsText, bad_symbol, reads}
-use Rattle.code_spec.proofs.ReadingLaws.{reading_one, front_one}
-use Rattle.command_steps.specs.declared.status.ChannelFault.TheVariants as faults
+use Rattle.code_spec.specs.PlainReading.{IsPlainFront, ReadsText, bad_symbol, reads}
+use Rattle.code_spec.proofs.ReadingLaws.{reading_one}
 use Rattle.command_steps.specs.declared.status.Status.{Status}
 use Rattle.command_steps.specs.declared.status.Status.TheVariants.{ChannelRefused}
 use Rattle.command_steps.specs.Step.{IsSingle, goes_on, understood}

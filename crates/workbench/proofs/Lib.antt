@@ -2,8 +2,7 @@ pub mod ChannelLaws
 pub mod CheckLaws
 pub mod CodeLaws
 pub mod ConstraintLaws
-pub mod CoverLaws
-pub mod MemoryLaws
 pub mod RowLaws
 pub mod TextLaws
 pub mod DecodeLaws
+pub mod ExplainLaws

@@ -22,8 +22,7 @@ use Rattle.code_spec.specs.Checked.{IsCheckedCode}
 use Rattle.workbench.specs.Rows.{row_of}
 use Rattle.workbench.proofs.CheckLaws.{checked_is_single}
 use Rattle.workbench.proofs.ConstraintLaws.{constraint_is_single}
-use Rattle.workbench.proofs.CoverLaws.{cover_is_single}
-use Rattle.workbench.proofs.MemoryLaws.{memory_is_single}
+use Rattle.design_steps.proofs.BegunLaws.{begun_is_single}
 
 code_is_single : (bytes : List ℕ) → IsSingle (CodeOf bytes)
 code_is_single bytes = reads_is_single (IsCodeText bytes) (IsWrongLine bytes) (λ line. CodeRefused (BadCode line)) (one_code bytes) (one_wrong_line bytes) (no_wrong_line bytes)
@@ -44,9 +43,9 @@ check_is_single : (code : List ℕ) → IsSingle (check_row code)
 unfolding check_row
 check_is_single code = search (then_is_single, checked_file_is_single, gives_is_single)
 
-explain_is_single : (constraint : List ℕ) → IsSingle (explain_row constraint)
+explain_is_single : (constraint : List ℕ) (p q bound : ℕ) → IsSingle (explain_row constraint p q bound)
 unfolding explain_row
-explain_is_single constraint = search (then_is_single, constraint_file_is_single, cover_is_single, memory_is_single, gives_is_single)
+explain_is_single constraint p q bound = search (then_is_single, constraint_file_is_single, begun_is_single, gives_is_single)
 
 encode_is_single : (code source : List ℕ) → IsSingle (encode_row code source)
 unfolding encode_row
@@ -62,6 +61,6 @@ decode_is_single code text = then_is_single_of IsCheckedCode (CheckedAt code) (�
 
 pub row_is_single : (form : Form) → IsSingle (row_of form)
 row_is_single (check code) = check_is_single code
-row_is_single (explain constraint p q bound) = explain_is_single constraint
+row_is_single (explain constraint p q bound) = explain_is_single constraint p q bound
 row_is_single (encode code source text) = encode_is_single code source
 row_is_single (decode code text target) = decode_is_single code text

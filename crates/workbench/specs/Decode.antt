@@ -1,5 +1,5 @@
 -- `decode CODE TEXT DATA`: the data file of a plain channel text.
-use Rattle.std.specs.Prelude.{ℕ, List, [], ◌∷◌, ◌++◌, length, codes, Result, Ok, Err}
+use Rattle.std.specs.Prelude.{ℕ, List, [], ◌∷◌, ◌++◌, length, codes, Ok, Err}
 use Rattle.std.specs.Fmt.{decimal}
 use Rattle.code_spec.specs.declared.fault.EndFault.{EndFault}
 use Rattle.code_spec.specs.declared.fault.EndFault.TheVariants as ends

@@ -1,13 +1,14 @@
--- `explain CONSTRAINT P Q BOUND`: the design of a code for a constraint, as far as its memory.
+-- `explain CONSTRAINT P Q BOUND`: the design of a code for a constraint, as far as its sink.
 use Rattle.std.specs.Prelude.{ℕ, ◌+◌, List, [], ◌∷◌, ◌++◌, length, map, codes}
 use Rattle.std.specs.Fmt.{decimal}
 use Rattle.code_text_spec.specs.CodeText.{spaced, text_of}
 use Rattle.label_graphs.specs.Graph.{EdgeData}
+use Rattle.label_graphs.specs.Power.{edge_count}
+use Rattle.command_steps.specs.FaultLines.{behind_spaces}
 use Rattle.command_steps.specs.Step.{Step, ◌>>=◌, Gives}
 use Rattle.command_steps.specs.Answer.{Answer, prints}
+use Rattle.design_steps.specs.Begun.{BegunData, BeginsWith}
 use Rattle.workbench.specs.Inputs.{ConstraintAt}
-use Rattle.workbench.specs.Covers.{CoverOf}
-use Rattle.workbench.specs.Memories.{MemoryOf}
 
 -- an edge by its state, its symbol and its target
 abbrev pub edge_line : ℕ → EdgeData → List ℕ
@@ -22,13 +23,20 @@ edge_lines state (row ∷ rows) = map (edge_line state) row ++ edge_lines (state
 abbrev pub cover_lines : List (List EdgeData) → List (List ℕ)
 cover_lines rows = spaced (codes "cover") (decimal (length rows)) ∷ edge_lines 0 rows
 
--- the memory behind them
-abbrev pub explain_lines : List (List EdgeData) → ℕ → List (List ℕ)
-explain_lines rows memory = cover_lines rows ++ (spaced (codes "memory") (decimal memory) ∷ [])
+-- the memory behind them, how many edges the power has, the least bound and the weights within it, and the states
+-- of the sink
+abbrev pub explain_lines : BegunData → List (List ℕ)
+explain_lines begun =
+    cover_lines begun.cover.graph
+    ++ spaced (codes "memory") (decimal begun.memory)
+    ∷ spaced (codes "power") (decimal (edge_count begun.power))
+    ∷ spaced (codes "bound") (decimal begun.vector.bound)
+    ∷ (codes "weights" ++ behind_spaces begun.vector.weights)
+    ∷ (codes "sink" ++ behind_spaces begun.sink.states)
+    ∷ []
 
-unfoldable pub explain_row : List ℕ → Step Answer
-explain_row constraint_name = do
+unfoldable pub explain_row : List ℕ → ℕ → ℕ → ℕ → Step Answer
+explain_row constraint_name p q bound = do
   constraint ← ConstraintAt constraint_name
-  cover ← CoverOf constraint
-  memory ← MemoryOf cover
-  Gives (prints (text_of (explain_lines cover memory)))
+  begun ← BeginsWith constraint p q bound
+  Gives (prints (text_of (explain_lines begun)))

@@ -1,5 +1,5 @@
 -- The forms of the command line: a constructor for each command, with its names and numbers.
-use Rattle.std.specs.Prelude.{ℕ, List, [], ◌∷◌, Option, Some, None, codes, nat_le, ◌&&◌, ◌||◌, if◌then◌else◌}
+use Rattle.std.specs.Prelude.{ℕ, ◌≤◌, List, [], ◌∷◌, Option, Some, None, codes, nat_le, ◌&&◌, ◌||◌, if◌then◌else◌}
 use Rattle.std.specs.Str.{bytes_eq}
 use Rattle.text_reading.specs.Reading.{◌>>=◌, number_in}
 
@@ -8,6 +8,15 @@ pub data Form : Type 0 where
   explain : (constraint : List ℕ) (p q bound : ℕ) → Form
   encode : (code source text : List ℕ) → Form
   decode : (code text target : List ℕ) → Form
+
+-- a rate, and a bound for weights
+pub record IsRateWithin (p q bound : ℕ) : Type 0 where
+  pub p_one : 1 ≤ p
+  pub p_eight : p ≤ 8
+  pub p_q : p ≤ q
+  pub q_twenty : q ≤ 20
+  pub bound_one : 1 ≤ bound
+  pub bound_most : bound ≤ 64
 
 -- the number that a word spells, where it is from least to most
 abbrev pub number_within : ℕ → ℕ → List ℕ → Option ℕ
@@ -38,6 +47,13 @@ form_of (command ∷ code ∷ source ∷ target ∷ []) = three_files_form comma
 form_of (command ∷ constraint ∷ p ∷ q ∷ bound ∷ []) =
     if bytes_eq command (codes "explain") then explain_form constraint p q bound else None
 form_of words = None
+
+-- the numbers of a form are in their ranges
+abbrev pub IsWithin : Form → Type 0
+IsWithin (check code) = Unit {0}
+IsWithin (explain constraint p q bound) = IsRateWithin p q bound
+IsWithin (encode code source text) = Unit {0}
+IsWithin (decode code text target) = Unit {0}
 
 -- the name of the file that the command writes; the empty name where it writes none
 abbrev pub output_of : Form → List ℕ

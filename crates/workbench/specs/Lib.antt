@@ -1,8 +1,6 @@
 pub mod Limits
 pub mod Forms
 pub mod Inputs
-pub mod Covers
-pub mod Memories
 pub mod CheckedCodes
 pub mod Explain
 pub mod Check

@@ -9,6 +9,6 @@ use Rattle.workbench.specs.Decode.{decode_row}
 
 abbrev pub row_of : Form → Step Answer
 row_of (check code) = check_row code
-row_of (explain constraint p q bound) = explain_row constraint
+row_of (explain constraint p q bound) = explain_row constraint p q bound
 row_of (encode code source text) = encode_row code source
 row_of (decode code text target) = decode_row code text

@@ -1,5 +1,5 @@
-ghost use Rattle.std.specs.Prelude.{◌≡◌, map, string_bytes, option_map};
-ghost use Rattle.workbench.specs.Forms.{number_within, explain_form, three_files_form, form_of};
+ghost use Rattle.std.specs.Prelude.{◌≡◌, ◌≤◌, map, string_bytes, option_map, IfSome};
+ghost use Rattle.workbench.specs.Forms.{IsWithin, number_within, explain_form, three_files_form, form_of};
 ghost use Rattle.workbench.specs.Views.{form_seen};
 
 use text_reading::number_in;
@@ -10,7 +10,7 @@ pub enum Command<'a> {
     /// The code file.
     Check(&'a str),
     /// The constraint file; p data bits for q symbols, and the greatest weight that is tried.
-    Explain(&'a str, u64, u64, u64),
+    Explain(&'a str, u32, u32, u32),
     /// The code file, the data file and the text file.
     Encode(&'a str, &'a str, &'a str),
     /// The code file, the text file and the data file.
@@ -19,7 +19,8 @@ pub enum Command<'a> {
 
 /// The command whose form the words are.
 pub fn command_of(words: &[String]) -> Option<Command<'_>>
-    ensures { option_map form_seen result ≡ form_of (map string_bytes words.now) }
+    ensures form { option_map form_seen result ≡ form_of (map string_bytes words.now) }
+    ensures within { IfSome result (λ command. IsWithin (form_seen command)) }
 {
     match words {
         [command, code] if command.as_str() == "check" => Some(Command::Check(code.as_str())),
@@ -46,7 +47,8 @@ fn three_files_command<'a>(
     source: &'a str,
     target: &'a str,
 ) -> Option<Command<'a>>
-    ensures { option_map form_seen result ≡ three_files_form command.now code.now source.now target.now }
+    ensures form { option_map form_seen result ≡ three_files_form command.now code.now source.now target.now }
+    ensures within { IfSome result (λ command. IsWithin (form_seen command)) }
 {
     if target == code || target == source {
         return None;
@@ -62,7 +64,8 @@ fn three_files_command<'a>(
 
 #[tactic(auto, unfolding(crate::specs::Forms::explain_form))]
 fn explain_command<'a>(constraint: &'a str, p: &str, q: &str, bound: &str) -> Option<Command<'a>>
-    ensures { option_map form_seen result ≡ explain_form constraint.now p.now q.now bound.now }
+    ensures form { option_map form_seen result ≡ explain_form constraint.now p.now q.now bound.now }
+    ensures within { IfSome result (λ command. IsWithin (form_seen command)) }
 {
     let p = number_within(1, 8, p)?;
     let q = number_within(p, 20, q)?;
@@ -71,12 +74,13 @@ fn explain_command<'a>(constraint: &'a str, p: &str, q: &str, bound: &str) -> Op
 }
 
 /// The number that a word spells, where it is from `least` to `most`.
-fn number_within(least: u64, most: u64, word: &str) -> Option<u64>
-    ensures { result ≡ number_within least most word.now }
+fn number_within(least: u32, most: u32, word: &str) -> Option<u32>
+    ensures number { result ≡ number_within least most word.now }
+    ensures within { IfSome result (λ number. (least ≤ number) × (number ≤ most)) }
 {
     let number = number_in(word.as_bytes())?;
-    if least <= number && number <= most {
-        Some(number)
+    if u64::from(least) <= number && number <= u64::from(most) {
+        Some(number as u32)
     } else {
         None
     }

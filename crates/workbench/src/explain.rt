@@ -1,65 +1,87 @@
-ghost use Rattle.std.specs.Prelude.{◌≡◌, ◌++◌, map, string_bytes, IfOk, OnOk};
+ghost use Rattle.std.specs.Prelude.{◌≡◌, ◌++◌, ◌≤◌, map, string_bytes, IfOk, OnOk};
 ghost use Rattle.code_text_spec.specs.CodeText.{text_of};
+ghost use Rattle.label_graphs.specs.Power.{edge_count};
 ghost use Rattle.label_graphs.specs.Views.{edge_data};
-ghost use Rattle.command_steps.specs.Promise.{Follows, Decides, seen};
-ghost use Rattle.workbench.specs.Covers.{CoverOf};
-ghost use Rattle.workbench.specs.Memories.{MemoryOf};
+ghost use Rattle.command_steps.specs.FaultLines.{behind_spaces};
+ghost use Rattle.command_steps.specs.Promise.{Follows, seen};
+ghost use Rattle.design_steps.specs.Views.{begun_data};
 ghost use Rattle.workbench.specs.Explain.{edge_line, cover_lines, explain_lines, explain_row};
 
 use crate::constraint_file::read_constraint_file;
-use command_steps::{Limit, Reply, Status};
-use constraint_model::Constraint;
-use label_graphs::{Cover, Edge};
-use min_cover::{CoverFault, MemoryFault, cover, memory};
+use command_steps::{Reply, Status};
+use design_steps::{Begun, begin, count_edges};
+use label_graphs::{Cover, Edge, Refinement, Weights};
 use shelf_io::Shelf;
 use std::alloc::Global;
-use symbol_base::{CoverName, Name, NoMemory};
+use symbol_base::{CoverName, Name, NoMemory, SplitName};
 
-/// The answer of `explain`: the cover of the constraint of a constraint file and its memory, as they
-/// are printed.
+/// The answer of `explain`: what a design with `p` data bits for `q` symbols and weights up to `bound`
+/// begins with, for the constraint of a constraint file, as it is printed.
 #[tactic(auto, using(command_steps::proofs::StepLaws::rows), unfolding(crate::specs::Explain::explain_row))]
-pub fn explain<F: Shelf>(alloc: Global, shelf: &mut F, constraint: &str) -> Result<Reply, Status>
-    ensures { Follows (λ r. r) (explain_row constraint.now) (seen F.files F.faults shelf.old) (seen F.files F.faults shelf.new) result }
+pub fn explain<F: Shelf>(
+    alloc: Global,
+    shelf: &mut F,
+    constraint: &str,
+    p: u32,
+    q: u32,
+    bound: u32,
+) -> Result<Reply, Status>
+    requires p_one { 1 ≤ p }
+    requires p_eight { p ≤ 8 }
+    requires q_one { 1 ≤ q }
+    requires q_twenty { q ≤ 20 }
+    requires bound_one { 1 ≤ bound }
+    requires bound_most { bound ≤ 64 }
+    ensures { Follows (λ r. r) (explain_row constraint.now p q bound) (seen F.files F.faults shelf.old) (seen F.files F.faults shelf.new) result }
 {
     let constraint = read_constraint_file(alloc, shelf, constraint)?;
-    let cover = cover_of(alloc, &constraint)?;
-    let memory = memory_of(alloc, &cover)?;
-    Ok(Reply::prints(explain_text(alloc, &cover, memory)?))
+    let begun = begin(alloc, &constraint, p, q, bound)?;
+    Ok(Reply::prints(explain_text(alloc, &begun)?))
 }
 
-/// The cover of a constraint, within the limits of covers.
-#[tactic(auto, using(crate::proofs::CoverLaws::covers, command_steps::specs::Promise::memory_alone))]
-fn cover_of(alloc: Global, constraint: &Constraint) -> Result<Cover, Status>
-    ensures { Decides (λ cover. cover.graph) (CoverOf constraint.now) result }
+/// The lines of what a design begins with.
+fn explain_text(alloc: Global, begun: &Begun) -> Result<String, NoMemory>
+    requires { edge_count begun.now.power ≤ 262144 }
+    ensures { IfOk result (λ text. string_bytes text ≡ text_of (explain_lines (begun_data begun.now))) }
 {
-    match cover(alloc, constraint) {
-        Ok(cover) => Ok(cover),
-        Err(CoverFault::RawStates(count)) => Err(Status::TooLarge(Limit::RawStates(count))),
-        Err(CoverFault::CoverStates(count)) => Err(Status::TooLarge(Limit::CoverStates(count))),
-        Err(CoverFault::NoMemory) => Err(Status::NoMemory),
-    }
-}
-
-/// The memory of a cover, within its limit.
-#[tactic(auto, using(crate::proofs::MemoryLaws::memories, command_steps::specs::Promise::memory_alone))]
-fn memory_of(alloc: Global, cover: &Cover) -> Result<u32, Status>
-    ensures { Decides (λ n. n) (MemoryOf cover.now.graph) result }
-{
-    match memory(alloc, cover) {
-        Ok(length) => Ok(length),
-        Err(MemoryFault::Infinite(two)) => Err(Status::InfiniteMemory(two)),
-        Err(MemoryFault::TooLong(length)) => Err(Status::TooLarge(Limit::MemoryTooLong(length))),
-        Err(MemoryFault::NoMemory) => Err(Status::NoMemory),
-    }
-}
-
-/// The lines of a cover, and its memory.
-fn explain_text(alloc: Global, cover: &Cover, memory: u32) -> Result<String, NoMemory>
-    ensures { IfOk result (λ text. string_bytes text ≡ text_of (explain_lines cover.now.graph memory)) }
-{
-    let mut text = cover_text(alloc, cover)?;
-    write!(text, "memory {memory}\n")?;
+    let mut text = cover_text(alloc, &begun.cover)?;
+    let memory = begun.memory;
+    let edges = count_edges(&begun.power);
+    let bound = begun.bound;
+    write!(
+        text,
+        "memory {memory}\npower {edges}\nbound {bound}\nweights"
+    )?;
+    write_weights(&begun.weights, &mut text)?;
+    text.push_str("\nsink")?;
+    write_parents(&begun.sink.parents, &mut text)?;
+    text.push('\n')?;
     Ok(text)
+}
+
+/// Writes each weight behind a space.
+fn write_weights(weights: &Weights, text: &mut String) -> Result<(), NoMemory>
+    ensures { OnOk result (string_bytes text.new ≡ string_bytes text.old ++ behind_spaces weights.now) }
+{
+    for state in 0..weights.len() {
+        let weight = weights.at(state);
+        write!(text, " {weight}")?;
+    }
+    Ok(())
+}
+
+/// Writes the number of each state's parent behind a space.
+fn write_parents(
+    parents: &Refinement<SplitName, CoverName>,
+    text: &mut String,
+) -> Result<(), NoMemory>
+    ensures { OnOk result (string_bytes text.new ≡ string_bytes text.old ++ behind_spaces parents.now) }
+{
+    for state in 0..parents.len() {
+        let parent = parents.parent(SplitName::at(state)).index();
+        write!(text, " {parent}")?;
+    }
+    Ok(())
 }
 
 /// The number of states of a cover, and a line for each edge.

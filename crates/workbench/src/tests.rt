@@ -1,14 +1,21 @@
 ghost use Rattle.std.specs.Prelude.{◌≡◌, ◌≤◌};
+ghost use Rattle.code_spec.specs.Code.{IsState};
+ghost use Rattle.block_codec.specs.Decoding.{IsDecoderFor};
 
 use crate::{
-    ChannelFault, CodeFault, ConstraintFault, Key, Status, Walk, run, run_arguments, status_line,
+    ChannelFault, CodeFault, ConstraintFault, Key, Limit, Status, Walk, run, run_arguments,
+    status_line,
 };
+use block_codec::{BlockDecoder, Encoder};
+use code_check::check;
+use code_model::CheckedCode;
+use code_tables::read_code;
 use min_cover::TwoStates;
 use shelf_io::{FailingShelf, MemoryShelf, MemorySink, Shelf};
 use std::alloc::Global;
 use std::process::Abort;
 use std::test::Fail;
-use symbol_base::{ByteList, CodeName, CoverName, Name, WordList};
+use symbol_base::{ByteList, CodeName, CoverName, Name, NoMemory, WordList};
 
 /// No two 0s in a row, three symbols for two bits, three states.
 const NO_TWO_ZEROS: &[u8] =
@@ -291,27 +298,81 @@ fn one_word(alloc: Global, word: u32) -> Result<Walk, Fail> {
     })
 }
 
+/// At most `k` 0s between 1s, and at least `d`.
+const D0_K1: &[u8] = b"d = 0\nk = 1\n";
+
+const D1_K3: &[u8] = b"d = 1\nk = 3\n";
+
+const D1_K7: &[u8] = b"d = 1\nk = 7\n";
+
+const D2_K7: &[u8] = b"d = 2\nk = 7\n";
+
+const D4_K16: &[u8] = b"d = 4\nk = 16\n";
+
+/// All of the constraint's keys, which leave one 1 in four symbols.
+const ALL_KEYS: &[u8] =
+    b"alphabet = 2\nd = 0\nk = 3\nforbid = [\"11\"]\n[[edge]]\nfrom = \"A\"\nlabel = \"0\"\nto = \"A\"\n";
+
 #[test]
-fn a_constraint_is_explained_by_its_cover_and_memory(rt: HostRuntime) -> Result<(), Fail> {
-    let table: [(&[u8], &[u8]); 4] = [
-        (b"", b"cover 1\n0 0 0\n0 1 0\nmemory 0\n"),
+fn a_constraint_is_explained_up_to_its_sink(rt: HostRuntime) -> Result<(), Fail> {
+    let table: [(&[u8], &[&str], &[u8]); 5] = [
         (
-            b"d = 0\nk = 1\n",
-            b"cover 2\n0 0 1\n0 1 0\n1 1 0\nmemory 1\n",
+            D0_K1,
+            EXPLAIN,
+            b"cover 2\n0 0 1\n0 1 0\n1 1 0\nmemory 1\npower 8\nbound 2\nweights 2 1\nsink 0 1\n",
         ),
         (
-            b"d = 1\nk = 3\n",
-            b"cover 5\n0 0 1\n0 1 2\n1 0 3\n1 1 2\n2 0 1\n3 0 4\n3 1 2\n4 1 2\nmemory 3\n",
+            D1_K3,
+            &["explain", "constraint", "1", "2", "1"],
+            b"cover 5\n0 0 1\n0 1 2\n1 0 3\n1 1 2\n2 0 1\n3 0 4\n3 1 2\n4 1 2\nmemory 3\npower 11\nbound 1\nweights 1 1 1 1 0\nsink 1 2 3\n",
         ),
         (
-            b"alphabet = 2\nd = 0\nk = 3\nforbid = [\"11\"]\n[[edge]]\nfrom = \"A\"\nlabel = \"0\"\nto = \"A\"\n",
-            b"cover 4\n0 0 1\n1 0 2\n2 0 3\nmemory 3\n",
+            D1_K7,
+            &["explain", "constraint", "2", "3", "64"],
+            b"cover 9\n0 0 1\n0 1 2\n1 0 3\n1 1 2\n2 0 1\n3 0 4\n3 1 2\n4 0 5\n4 1 2\n5 0 6\n5 1 2\n6 0 7\n6 1 2\n7 0 8\n7 1 2\n8 1 2\nmemory 7\npower 37\nbound 3\nweights 3 3 2 3 3 2 2 2 1\nsink 1 2 3 4 5 6 7 8\n",
+        ),
+        (
+            D2_K7,
+            &["explain", "constraint", "1", "2", "4"],
+            b"cover 10\n0 0 1\n0 1 2\n1 0 3\n1 1 2\n2 0 4\n3 0 5\n3 1 2\n4 0 3\n5 0 6\n5 1 2\n6 0 7\n6 1 2\n7 0 8\n7 1 2\n8 0 9\n8 1 2\n9 1 2\nmemory 7\npower 24\nbound 4\nweights 4 4 2 4 3 4 3 3 2 1\nsink 2 3 4 5 6 7 8 9\n",
+        ),
+        (
+            b"",
+            &["explain", "constraint", "8", "18", "1"],
+            b"cover 1\n0 0 0\n0 1 0\nmemory 0\npower 262144\nbound 1\nweights 1\nsink 0\n",
         ),
     ];
-    for (file, text) in table {
-        printed(&rt, rt.alloc(), ("constraint", file), EXPLAIN, text)?;
+    for (file, words, text) in table {
+        printed(&rt, rt.alloc(), ("constraint", file), words, text)?;
     }
     Ok(())
+}
+
+/// Runs `explain` for a constraint, a rate and a bound, and shows that it ends with the status.
+fn not_explained(
+    rt: &impl Abort,
+    alloc: Global,
+    constraint: &[u8],
+    rate: (&str, &str, &str),
+    status: Status,
+) -> Result<(), Fail> {
+    let mut shelf = MemoryShelf::new(alloc);
+    shelf.add("constraint", constraint)?;
+    let words = ["explain", "constraint", rate.0, rate.1, rate.2];
+    refused(rt, alloc, &mut shelf, &words, status)
+}
+
+#[test]
+fn a_design_that_has_no_sink_within_its_limits_is_refused(rt: HostRuntime) -> Result<(), Fail> {
+    let alloc = rt.alloc();
+    let too_large = Status::TooLarge(Limit::PowerEdges(524_288));
+    not_explained(&rt, alloc, b"", ("8", "19", "1"), too_large)?;
+    let too_heavy = Status::TooLarge(Limit::Weight(792));
+    not_explained(&rt, alloc, D4_K16, ("4", "10", "64"), too_heavy)?;
+    not_explained(&rt, alloc, D0_K1, ("2", "3", "1"), Status::NoVector)?;
+    not_explained(&rt, alloc, D2_K7, ("1", "2", "3"), Status::NoVector)?;
+    not_explained(&rt, alloc, D1_K3, ("2", "3", "64"), Status::NoVector)?;
+    not_explained(&rt, alloc, ALL_KEYS, ("1", "2", "64"), Status::NoVector)
 }
 
 #[test]
@@ -370,7 +431,7 @@ fn a_constraint_file_of_one_byte_more_than_1_mib_is_too_long(rt: HostRuntime) ->
         alloc,
         blank,
         EXPLAIN,
-        b"cover 1\n0 0 0\n0 1 0\nmemory 0\n",
+        b"cover 1\n0 0 0\n0 1 0\nmemory 0\npower 8\nbound 1\nweights 1\nsink 0\n",
     )
 }
 
@@ -468,5 +529,48 @@ fn the_first_argument_is_the_name_of_the_program(rt: HostRuntime) -> Result<(), 
     );
     assert_eq!(rt; run_arguments(alloc, &[], &mut shelf, &mut out), 1);
     assert!(rt; out.text() == b"blocks 6\nusage\nusage\n".as_slice());
+    Ok(())
+}
+
+/// The checked code of a text.
+fn checked(alloc: Global, text: &[u8]) -> Result<CheckedCode, Fail> {
+    if let Ok(code) = read_code(alloc, text) {
+        if let Ok(code) = check(alloc, code) {
+            return Ok(code);
+        }
+    }
+    Err(Fail::from(NoMemory))
+}
+
+/// Encodes a data word of the code and decodes its block.
+fn pass_on(
+    code: &CheckedCode,
+    encoder: &mut Encoder,
+    decoder: &mut BlockDecoder,
+    word: u32,
+) -> (u64, Option<u32>)
+    requires state { IsState code.now encoder.old }
+    requires decoder { IsDecoderFor code.now decoder.old }
+    ensures state { IsState code.now encoder.new }
+    ensures decoder { IsDecoderFor code.now decoder.new }
+{
+    if word >= code.code().word_count() {
+        return (0, None);
+    }
+    let block = encoder.step(code, word);
+    (block.value, decoder.step(code, block))
+}
+
+#[test]
+fn a_word_is_decoded_once_its_window_is_whole(rt: HostRuntime) -> Result<(), Fail> {
+    let code = checked(rt.alloc(), NO_TWO_ZEROS)?;
+    let mut encoder = Encoder::new(&code);
+    let mut decoder = BlockDecoder::new(rt.alloc(), &code)?;
+    assert!(rt; pass_on(&code, &mut encoder, &mut decoder, 0) == (2, None));
+    assert!(rt; pass_on(&code, &mut encoder, &mut decoder, 1) == (6, None));
+    assert!(rt; pass_on(&code, &mut encoder, &mut decoder, 3) == (5, Some(1)));
+    assert!(rt; pass_on(&code, &mut encoder, &mut decoder, 2) == (7, Some(3)));
+    decoder.clear();
+    assert!(rt; pass_on(&code, &mut encoder, &mut decoder, 0).1.is_none());
     Ok(())
 }

@@ -4,7 +4,7 @@ ghost use Rattle.command_steps.specs.Promise.{seen};
 ghost use Rattle.command_steps.specs.Answer.{Shelved};
 ghost use Rattle.command_steps.specs.Printing.{said};
 ghost use Rattle.command_steps.specs.Ends.{Ends, IsExact, Completes, CountsShelf, CountsSink, text_left};
-ghost use Rattle.workbench.specs.Forms.{form_of, output_of};
+ghost use Rattle.workbench.specs.Forms.{IsWithin, form_of, output_of};
 ghost use Rattle.workbench.specs.Rows.{row_of};
 ghost use Rattle.workbench.specs.Runs.{Runs};
 ghost use Rattle.workbench.specs.Channel.{KeepsConstraint};
@@ -23,7 +23,7 @@ use std::alloc::Global;
 ///
 /// `encode CODE DATA TEXT` reads a code file and a data file, writes the plain channel text of the data
 /// under the code, and prints how many blocks it has; `decode CODE TEXT DATA` writes the data file of a plain
-/// channel text, and prints how many bytes it has. After a status other than `Done` and `SinkFault` the
+/// channel text, and prints how many bytes it has; `check CODE` and `explain CONSTRAINT P Q BOUND` print alone. After a status other than `Done` and `SinkFault` the
 /// line of the status is printed.
 ///
 /// The file that is written is the last name's alone. After a fault of the shelf it may be a front of
@@ -76,6 +76,7 @@ fn ended<F: Shelf, K: TextSink>(
     out: &mut K,
     command: &Command<'_>,
 ) -> Status
+    requires { IsWithin (form_seen command.now) }
     ensures { Ends (row_of (form_seen command.now)) (output_of (form_seen command.now))
         (seen F.files F.faults shelf.old) (seen F.files F.faults shelf.new)
         (said K.written K.faults out.old) (said K.written K.faults out.new) result }
@@ -95,6 +96,7 @@ fn ended<F: Shelf, K: TextSink>(
 /// Answers a command and writes its output file; gives what is left to print, or the status.
 #[tactic(auto, using(command_steps::proofs::EndLaws::shelved_on, command_steps::proofs::EndLaws::shelved_stop))]
 fn shelve<F: Shelf>(alloc: Global, shelf: &mut F, command: &Command<'_>) -> Result<String, Status>
+    requires { IsWithin (form_seen command.now) }
     ensures { Shelved (row_of (form_seen command.now)) (output_of (form_seen command.now))
         (seen F.files F.faults shelf.old) (seen F.files F.faults shelf.new) (text_left result) }
 {
@@ -103,8 +105,8 @@ fn shelve<F: Shelf>(alloc: Global, shelf: &mut F, command: &Command<'_>) -> Resu
             let reply = check(alloc, shelf, code)?;
             deliver(shelf, "", reply)
         }
-        Command::Explain(constraint, _, _, _) => {
-            let reply = explain(alloc, shelf, constraint)?;
+        Command::Explain(constraint, p, q, bound) => {
+            let reply = explain(alloc, shelf, constraint, *p, *q, *bound)?;
             deliver(shelf, "", reply)
         }
         Command::Encode(code, source, text) => {

@@ -1,12 +1,9 @@
-use Rattle.std.proofs.Common.{◌≡◌, ℕ, List, [], Result, Ok, Err, Some, refl, sym, ap, ◌∙◌, subst}
-use Rattle.code_spec.specs.declared.fault.EndFault.{EndFault}
+use Rattle.std.proofs.Common.{[], Err, refl, ap, subst}
 use Rattle.code_spec.specs.declared.fault.EndFault.TheVariants as ends
 use Rattle.block_codec.specs.declared.fault.TextFault.{TextFault}
-use Rattle.block_codec.specs.declared.fault.TextFault.TheVariants as texts
 use Rattle.command_steps.specs.declared.status.ChannelFault.{ChannelFault}
 use Rattle.command_steps.specs.declared.status.Status.TheVariants.{ChannelRefused}
-use Rattle.code_spec.specs.PlainReading.{IsPlainFront}
-use Rattle.block_codec.specs.TextDecoding.{TextHasCome, TakesText, EndsText}
+use Rattle.block_codec.specs.TextDecoding.{TakesText}
 use Rattle.block_codec.proofs.FileLaws.{nothing_gives_nothing}
 use Rattle.workbench.proofs.DecodeLaws.{text_is_read, text_is_refused, end_is_refused, fed_bad, fed_well, first_bytes}
 use Rattle.workbench.proofs.decode.file_of.Goals as goal

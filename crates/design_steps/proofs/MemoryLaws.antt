@@ -1,6 +1,5 @@
 -- What finding a memory says of the step that it is, and that the step has one outcome.
-use Rattle.std.proofs.Common.{◌≡◌, ℕ, ◌<◌, ◌≤◌, List, length, Ok, Err, refl, sym, ap, ◌∙◌, arith}
-use Rattle.symbol_base.specs.Word.{IsBefore}
+use Rattle.std.proofs.Common.{◌≡◌, ℕ, ◌≤◌, List, length, Ok, Err, refl, ap, ◌∙◌, arith}
 use Rattle.label_graphs.specs.Graph.{EdgeData, HasEdge}
 use Rattle.label_graphs.specs.Memory.{IsMemory}
 use Rattle.min_cover.specs.declared.fault.TwoStates.{TwoStates}
@@ -13,7 +12,7 @@ use Rattle.command_steps.specs.declared.status.Status.TheVariants.{TooLarge, Inf
 use Rattle.command_steps.specs.Step.{IsSingle}
 use Rattle.command_steps.specs.Promise.{Decides}
 use Rattle.command_steps.proofs.StepLaws.{reads_value, reads_fault, reads_is_single, too_large_is_refusal, infinite_memory_is_refusal}
-use Rattle.workbench.specs.Memories.{IsMemoryWithin, memory_status, MemoryOf}
+use Rattle.design_steps.specs.Memories.{IsMemoryWithin, memory_status, MemoryOf}
 
 abbrev IsFault : List (List EdgeData) → MemoryFault → Type 0
 IsFault rows fault = IsMemoryFault rows fault × (fault ≡ faults.NoMemory → ⊥)

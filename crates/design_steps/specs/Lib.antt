@@ -1,0 +1,7 @@
+pub mod Begun
+pub mod Covers
+pub mod Memories
+pub mod Powers
+pub mod Sinks
+pub mod Vectors
+pub mod Views
