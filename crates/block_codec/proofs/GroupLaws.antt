@@ -1,5 +1,5 @@
 -- Groups of eight blocks: their digits, their windows, and the bytes that their words fill.
-use Rattle.std.proofs.Common.{◌≡◌, ℕ, zero, suc, ◌+◌, ◌-◌, ◌*◌, ◌/◌, ◌%◌, ◌<◌, ◌≤◌, ◌^◌, ⊎_elim, List, [], ◌∷◌, ◌++◌, length, get_or, take, drop, map, replicate, min, refl, sym, ap, ap₂, ◌∙◌, subst, arith, pow-add, mul_comm, append_assoc}
+use Rattle.std.proofs.Common.{◌≡◌, ℕ, zero, suc, ◌+◌, ◌-◌, ◌*◌, ◌/◌, ◌%◌, ◌<◌, ◌≤◌, ◌^◌, ⊎_elim, List, [], ◌∷◌, ◌++◌, length, get_or, take, drop, map, replicate, refl, sym, ap, ap₂, ◌∙◌, subst, arith, pow-add, mul_comm, append_assoc}
 use Rattle.std.specs.Prelude.{All, Bool, not, cond}
 use Rattle.std.specs.List.{flat_map}
 use Rattle.std.proofs.Math.Nat.{mul-suc, mod-eq_of_lt, div-add-mod, div-div-eq-div-mul}
@@ -8,11 +8,11 @@ use Rattle.std.specs.Int.{w64, from_be_bytes}
 use Rattle.std.proofs.Math.ListN.{get_or-eq_default}
 use Rattle.std.proofs.lemmas.Nat.{div-mul-add, be_bytes_8}
 use Rattle.std.proofs.lemmas.Bool.{cases_lt}
-use Rattle.std.proofs.lemmas.List.{append-nil, length-append, length-drop, length-take-le, length-replicate, length-map, map-append, get_or-map, get_or_append_left, get_or-append-add, get_or_push, take-append-le, take_more, take_all, drop-append-le, drop-drop}
+use Rattle.std.proofs.lemmas.List.{append-nil, length-append, length-drop, length-replicate, length-map, map-append, get_or-map, get_or_append_left, get_or-append-add, get_or_push, take-append-le, take_more, take_all, drop-append-le, drop-drop}
 use Rattle.std.proofs.lemmas.List.Concat.{flat_map-append}
 use Rattle.std.proofs.lemmas.List.Elements.{All-append, All-map, All-get_or, filter-append}
 use Rattle.symbol_base.specs.declared.Block.{Block}
-use Rattle.symbol_base.specs.Block.{number_of, symbols_of}
+use Rattle.symbol_base.specs.Block.{symbols_of}
 use Rattle.symbol_base.specs.Bits.{bits, byte_bits}
 use Rattle.symbol_base.proofs.BlockLemmas.{power_positive, length-symbols_of, get_or-symbols_of, IsOver-symbols_of, symbols_of-add}
 use Rattle.code_spec.specs.Code.{CodeData}

@@ -1,5 +1,5 @@
 -- Windows as numbers, and the table of the decoder's answers to all of them.
-use Rattle.std.specs.Prelude.{◌≡◌, ℕ, ◌+◌, ◌*◌, ◌/◌, ◌%◌, ◌<◌, ◌≤◌, ◌^◌, ◌⊎◌, List, length, map, slice_index}
+use Rattle.std.specs.Prelude.{◌≡◌, ℕ, ◌*◌, ◌/◌, ◌%◌, ◌<◌, ◌≤◌, ◌^◌, ◌⊎◌, List, length, map, slice_index}
 use Rattle.symbol_base.specs.declared.Block.{Block}
 use Rattle.symbol_base.specs.Block.{symbols_of}
 use Rattle.code_spec.specs.Code.{CodeData}

@@ -1,7 +1,7 @@
-use Rattle.std.proofs.Common.{◌≡◌, ◌+◌, ◌*◌, ◌/◌, ◌%◌, ◌^◌, ◌<◌, ap, ap₂, sym, subst, ◌∙◌, arith, length, get_or}
+use Rattle.std.proofs.Common.{◌≡◌, ◌*◌, ◌/◌, ◌%◌, ◌^◌, ap, ap₂, sym, ◌∙◌, arith, length, get_or}
 use Rattle.code_spec.specs.Code.{CodeData}
 use Rattle.code_spec.specs.Output.{output}
-use Rattle.block_codec.specs.inside.Answers.{IsFilledBy, window_of, words_in, list_count}
+use Rattle.block_codec.specs.inside.Answers.{window_of, words_in, list_count}
 use Rattle.block_codec.proofs.AnswerLaws.{word_in_place, walk_begins, filled_more, filled_all}
 use Rattle.block_codec.proofs.answers.answer_table.Goals as goal
 

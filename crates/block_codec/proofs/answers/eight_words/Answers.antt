@@ -1,5 +1,4 @@
 use Rattle.std.proofs.Common.{◌≡◌, ◌+◌, ◌-◌, ◌*◌, ◌/◌, ◌%◌, ◌^◌, ◌<◌, sym, ap, subst, ◌∙◌, arith}
-use Rattle.code_spec.specs.Code.{CodeData}
 use Rattle.code_spec.specs.Decoder.{window_length, IsDecoded}
 use Rattle.code_spec.proofs.DecoderLaws.{decoded_below}
 use Rattle.block_codec.specs.inside.Answers.{window_of, window_count}

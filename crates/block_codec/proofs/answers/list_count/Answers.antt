@@ -1,4 +1,4 @@
-use Rattle.std.proofs.Common.{◌≡◌, ◌*◌, ◌^◌, ◌≤◌, refl, subst, arith}
+use Rattle.std.proofs.Common.{◌*◌, ◌^◌, ◌≤◌, refl, subst, arith}
 use Rattle.code_spec.specs.Code.{CodeData}
 use Rattle.block_codec.proofs.AnswerLaws.{few_numbers}
 use Rattle.block_codec.proofs.answers.list_count.Goals as goal

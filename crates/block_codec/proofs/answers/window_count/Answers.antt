@@ -1,4 +1,4 @@
-use Rattle.std.proofs.Common.{◌≡◌, ◌≤◌, subst, refl, arith}
+use Rattle.std.proofs.Common.{◌≤◌, subst, arith}
 use Rattle.code_spec.specs.Code.{CodeData}
 use Rattle.block_codec.proofs.AnswerLaws.{few_numbers}
 use Rattle.block_codec.proofs.answers.window_count.Goals as goal

@@ -1,5 +1,4 @@
 use Rattle.std.proofs.Common.{◌≡◌, ◌+◌, ◌-◌, ◌*◌, ◌/◌, ◌%◌, ◌^◌, ◌<◌, take, ap, sym, subst, ◌∙◌, arith}
-use Rattle.std.proofs.Math.Nat.{mul-suc}
 use Rattle.code_spec.specs.Code.{CodeData}
 use Rattle.code_spec.specs.Walks.{IsWalkOf}
 use Rattle.block_codec.specs.inside.Answers.{blocks_in, words_in}

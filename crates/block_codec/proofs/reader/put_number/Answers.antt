@@ -1,4 +1,4 @@
-use Rattle.std.proofs.Common.{◌∙◌, ◌-◌, ◌+◌, ◌*◌, ◌/◌, ◌^◌, refl, arith}
+use Rattle.std.proofs.Common.{◌∙◌, ◌-◌, ◌*◌, ◌/◌, ◌^◌, refl, arith}
 use Rattle.std.proofs.lemmas.Nat.{and_mask}
 use Rattle.block_codec.proofs.GroupLaws.{bytes_put, bytes_all}
 use Rattle.block_codec.proofs.reader.put_number.Goals as goal

@@ -1,7 +1,5 @@
-use Rattle.std.proofs.Common.{◌≡◌, ◌+◌, ◌*◌, ◌++◌, take, refl, ap, sym, subst, ◌∙◌, arith, List}
-use Rattle.symbol_base.specs.declared.Block.{Block}
+use Rattle.std.proofs.Common.{◌≡◌, ◌*◌, ◌++◌, take, refl, ap, subst, ◌∙◌, arith}
 use Rattle.symbol_base.specs.Block.{symbols_of}
-use Rattle.code_spec.specs.Code.{CodeData}
 use Rattle.block_codec.specs.declared.window_decoder.WindowDecoder.{WindowDecoder}
 use Rattle.block_codec.specs.inside.Packing.{IsPacked}
 use Rattle.block_codec.specs.inside.WindowDecoding.{HaveCome}

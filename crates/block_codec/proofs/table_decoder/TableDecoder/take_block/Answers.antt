@@ -1,7 +1,6 @@
-use Rattle.std.proofs.Common.{◌≡◌, ◌+◌, ◌≤◌, ◌∷◌, [], ◌++◌, ◌∙◌, min, get_or, sym, ap, subst, arith, List, refl}
-use Rattle.symbol_base.specs.declared.Block.{Block}
+use Rattle.std.proofs.Common.{◌+◌, ◌∷◌, [], ◌++◌, sym, ap, subst, arith}
 use Rattle.code_spec.specs.Code.{CodeData}
-use Rattle.code_spec.specs.Decoder.{window_length, IsDecoded}
+use Rattle.code_spec.specs.Decoder.{IsDecoded}
 use Rattle.code_spec.proofs.DecoderLaws.{decoded_below}
 use Rattle.block_codec.specs.inside.Answers.{window_of}
 use Rattle.block_codec.proofs.AnswerLaws.{window_rolled, window_below, entry_read}

@@ -1,8 +1,7 @@
-use Rattle.std.proofs.Common.{◌≡◌, ◌+◌, ◌-◌, ◌*◌, ◌%◌, ◌^◌, ◌≤◌, ◌++◌, drop, length, ap, sym, subst, ◌∙◌, arith, List}
+use Rattle.std.proofs.Common.{◌+◌, ◌-◌, ◌*◌, ◌%◌, ◌^◌, ◌≤◌, length, ap, subst, ◌∙◌, arith, List}
 use Rattle.std.proofs.lemmas.List.{length-append}
 use Rattle.symbol_base.specs.declared.Block.{Block}
 use Rattle.symbol_base.specs.Block.{symbols_of}
-use Rattle.code_spec.specs.Code.{CodeData}
 use Rattle.code_spec.specs.Decoder.{window_length, AreDecoded}
 use Rattle.block_codec.specs.inside.Answers.{blocks_in}
 use Rattle.block_codec.proofs.AnswerLaws.{length-blocks_in}
