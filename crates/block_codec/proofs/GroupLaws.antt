@@ -4,9 +4,9 @@ use Rattle.std.specs.Prelude.{All, Bool, not, cond}
 use Rattle.std.specs.List.{flat_map}
 use Rattle.std.proofs.Math.Nat.{mul-suc, mod-eq_of_lt, div-add-mod, div-div-eq-div-mul}
 use Rattle.std.proofs.Math.Seq.{take-append_seam, drop-append_seam, drop-append-add, take-add}
-use Rattle.std.specs.Int.{w64, from_be_bytes}
+use Rattle.std.specs.Int.{w64, from_le_bytes}
 use Rattle.std.proofs.Math.ListN.{get_or-eq_default}
-use Rattle.std.proofs.lemmas.Nat.{div-mul-add, be_bytes_8}
+use Rattle.std.proofs.lemmas.Nat.{div-mul-add, le_bytes_8}
 use Rattle.std.proofs.lemmas.Bool.{cases_lt}
 use Rattle.std.proofs.lemmas.List.{append-nil, length-append, length-drop, length-replicate, length-map, map-append, get_or-map, get_or_append_left, get_or-append-add, get_or_push, take-append-le, take_more, take_all, drop-append-le, drop-drop}
 use Rattle.std.proofs.lemmas.List.Concat.{flat_map-append}
@@ -272,7 +272,7 @@ packed_more digits eight i value byte more inside is row small more_is below bef
     subst (λ n. IsPacked n (take n digits) more) next (record { below = below; digits = all })
 
 -- one row more of the table of digits
-pub rows_more : (rows more : List ℕ) (byte row : ℕ) → more ≡ rows ++ row ∷ [] → row ≡ from_be_bytes w64 (digits_of (symbols_of 2 8 byte)) → HasRows byte rows → HasRows (byte + 1) more
+pub rows_more : (rows more : List ℕ) (byte row : ℕ) → more ≡ rows ++ row ∷ [] → row ≡ from_le_bytes w64 (digits_of (symbols_of 2 8 byte)) → HasRows byte rows → HasRows (byte + 1) more
 rows_more rows more byte row is row_is before = record {
   entries = omega (arith, ap (λ (rs : List ℕ). length rs) is, length-append rows (row ∷ []), before.entries);
   entry =
@@ -282,7 +282,7 @@ rows_more rows more byte row is row_is before = record {
       ap (λ (rs : List ℕ). get_or rs place 0) is ∙ get_or_append_left rows (row ∷ []) 0 place (omega (arith, early, before.entries)) ∙ before.entry place early)
       (λ (late : byte ≤ place).
       let last : place ≡ byte = omega (arith, late, inside) in
-      ap₂ (λ (rs : List ℕ) n. get_or rs n 0) is last ∙ get_or_push rows row 0 byte before.entries ∙ row_is ∙ ap (λ n. from_be_bytes w64 (digits_of (symbols_of 2 8 n))) (sym last))
+      ap₂ (λ (rs : List ℕ) n. get_or rs n 0) is last ∙ get_or_push rows row 0 byte before.entries ∙ row_is ∙ ap (λ n. from_le_bytes w64 (digits_of (symbols_of 2 8 n))) (sym last))
       (cases_lt place byte);
 }
 
@@ -299,13 +299,13 @@ digits_small symbols over i =
     (cases_lt i (length symbols))
 
 -- digits with the number of a byte's are the byte's
-pub digits_told : (rows digits : List ℕ) (byte number : ℕ) → byte < 256 → HasRows 256 rows → length digits ≡ 8 → ((i : ℕ) → get_or digits i 0 < 256) → number ≡ from_be_bytes w64 digits → get_or rows byte 0 ≡ number
+pub digits_told : (rows digits : List ℕ) (byte number : ℕ) → byte < 256 → HasRows 256 rows → length digits ≡ 8 → ((i : ℕ) → get_or digits i 0 < 256) → number ≡ from_le_bytes w64 digits → get_or rows byte 0 ≡ number
     → digits ≡ digits_of (symbols_of 2 8 byte)
 digits_told rows digits byte number small has eight bytes is row =
     let symbols = symbols_of 2 8 byte in
     let len : length (digits_of symbols) ≡ 8 = length-map symbols (λ symbol. 48 + symbol) ∙ length-symbols_of 2 8 byte in
-    sym (be_bytes_8 digits number eight bytes is)
-    ∙ be_bytes_8 (digits_of symbols) number len (digits_small symbols (IsOver-symbols_of 2 8 byte (omega arith))) (sym row ∙ has.entry byte small)
+    sym (le_bytes_8 digits number eight bytes is)
+    ∙ le_bytes_8 (digits_of symbols) number len (digits_small symbols (IsOver-symbols_of 2 8 byte (omega arith))) (sym row ∙ has.entry byte small)
 
 marks_of_digits : (symbols : List ℕ) → marks_in (digits_of symbols) ≡ digits_of symbols
 marks_of_digits [] = refl

@@ -1,8 +1,7 @@
 //! The digits of a text, eight at a time.
 
-ghost use Rattle.std.specs.Prelude.{◌≡◌, ◌*◌, ◌≤◌, length, IfOk, IfSome};
-ghost use Rattle.std.specs.Bool.{OnTrue};
-ghost use Rattle.std.specs.Int.{w64, from_be_bytes};
+ghost use Rattle.std.specs.Prelude.{◌≡◌, ◌*◌, ◌<◌, ◌≤◌, length, IfOk, IfSome};
+ghost use Rattle.std.specs.Int.{w64, from_le_bytes};
 ghost use Rattle.symbol_base.specs.Block.{symbols_of};
 ghost use Rattle.block_codec.specs.inside.Digits.{digits_of};
 ghost use Rattle.block_codec.specs.inside.Packing.{IsPacked, HasRows};
@@ -24,13 +23,13 @@ fn digits_of_byte(byte: u8) -> [u8; 8]
     digits
 }
 
-/// Eight bytes as a number, the first most significant.
+/// Eight bytes as a number, the first least significant.
 #[inline]
 fn number_of_eight(bytes: &[u8]) -> u64
     requires { length bytes.now ≡ 8 }
-    ensures { result ≡ from_be_bytes w64 bytes.now }
+    ensures { result ≡ from_le_bytes w64 bytes.now }
 {
-    u64::from_be_bytes([
+    u64::from_le_bytes([
         bytes[0], bytes[1], bytes[2], bytes[3], bytes[4], bytes[5], bytes[6], bytes[7],
     ])
 }
@@ -41,31 +40,34 @@ pub(crate) fn digit_table(alloc: Global) -> Result<Vec<u64>, NoMemory>
 {
     let mut table = Vec::with_capacity(alloc, 256)?;
     for byte in 0..256u32 {
-        table.push(u64::from_be_bytes(digits_of_byte(byte as u8)))?;
+        table.push(u64::from_le_bytes(digits_of_byte(byte as u8)))?;
     }
     Ok(table)
 }
 
-/// The byte whose eight digits these are, where they are digits, and any byte where they aren't.
+/// The byte whose eight digits this number has, where it has digits, and any byte where it doesn't.
 ///
 /// The product brings the last bit of each into the top byte. Nothing rests on it, since the digits are then
 /// compared with those of the byte.
 #[inline]
-fn likely_byte(digits: &[u8]) -> u8
-    requires { length digits.now ≡ 8 }
-{
-    let bits = number_of_eight(digits) & 0x0101_0101_0101_0101;
-    (bits.wrapping_mul(0x0102_0408_1020_4080) >> 56) as u8
+fn likely_byte(number: u64) -> u8 {
+    ((number & 0x0101_0101_0101_0101).wrapping_mul(0x8040_2010_0804_0201) >> 56) as u8
 }
 
-/// Whether these are the eight digits of the byte.
+/// The byte whose eight digits these are, where all are digits.
 #[inline]
-fn are_digits_of(table: &[u64], byte: u8, digits: &[u8]) -> bool
+fn byte_of(table: &[u64], digits: &[u8]) -> Option<u8>
     requires table { HasRows 256 table.now }
     requires eight { length digits.now ≡ 8 }
-    ensures { OnTrue result (digits.now ≡ digits_of (symbols_of 2 8 byte)) }
+    ensures digits { IfSome result (λ byte. digits.now ≡ digits_of (symbols_of 2 8 byte)) }
+    ensures small { IfSome result (λ byte. byte < 256) }
 {
-    table[usize::from(byte)] == number_of_eight(digits)
+    let number = number_of_eight(digits);
+    let byte = likely_byte(number);
+    if table[usize::from(byte)] != number {
+        return None;
+    }
+    Some(byte)
 }
 
 /// The number whose binary digits these bytes are, so many times eight, where all are digits.
@@ -80,10 +82,7 @@ pub(crate) fn packed(table: &[u64], digits: &[u8], eights: u32) -> Option<u64>
     for i in 0..eights {
         let from = 8 * i as usize;
         let eight = &digits[from..from + 8];
-        let byte = likely_byte(eight);
-        if !are_digits_of(table, byte, eight) {
-            return None;
-        }
+        let byte = byte_of(table, eight)?;
         value = joined_wide(value, 8 * i, u64::from(byte), 8);
     }
     Some(value)
