@@ -343,3 +343,20 @@ fn walks_are_found_again_behind_a_wrong_block(rt: HostRuntime) -> Result<(), Fai
     }
     Ok(())
 }
+
+#[test]
+fn longer_texts_of_known_codes_give_their_files(rt: HostRuntime) -> Result<(), Fail> {
+    let alloc = rt.alloc();
+    let codes = vec![in alloc; no_two_zeros(alloc)?, mfm(alloc)?, three_bits(alloc)?]?;
+    for length in [15, 16, 17, 100] {
+        let file = file_of(alloc, length)?;
+        for code in &codes {
+            let text = text_by_steps(&rt, alloc, code, file.as_slice())?;
+            for cut in [0, 1, 30, 47, 48] {
+                assert!(rt; cut <= text.len() && text.len() < 20000);
+                is_file(&rt, alloc, code, text.as_slice(), cut, file.as_slice())?;
+            }
+        }
+    }
+    Ok(())
+}
