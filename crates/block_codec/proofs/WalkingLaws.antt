@@ -58,57 +58,6 @@ steps_ended c blocks steps end next start count kept = record {
 pub steps_none : (c : CodeData) (blocks : List Block) (steps : List Step) (end start to : ℕ) → to ≤ start → AreSteps c blocks steps end start to
 steps_none c blocks steps end start to none = record { each = λ place from inside. absurd (omega (arith, none, from, inside)) }
 
--- one step more in front of the last steps
-pub steps_grown : (c : CodeData) (blocks : List Block) (steps : List Step) (end place to n : ℕ) (step : Step) → place < length steps → (step_at steps end (place + 1)).state ≡ to
-    → IsStepTo c step (get_or blocks place (block_of 0)) to → AreSteps c blocks steps end (place + 1) n → AreSteps c blocks (set steps place step) end place n
-steps_grown c blocks steps end place to n step inside next fits back = record {
-  each =
-      λ i from below.
-      ⊎_elim
-      (λ (here : i ≡ place).
-      let written = ap (λ m. get_or blocks m (block_of 0)) here in
-      let same = ap (λ m. step_at (set steps place step) end m) here ∙ get_or-set_same steps place step (end_step end) inside in
-      let behind = get_or-set_other steps place (i + 1) step (end_step end) (λ e. omega (arith, e, here)) ∙ ap (λ m. step_at steps end (m + 1)) here in
-      same_step c _ _ _ _ _ _ same written (ap (λ (s : Step). s.state) behind ∙ next) fits)
-      (λ (there : i ≡ place → ⊥).
-      let same = get_or-set_other steps place i step (end_step end) there in
-      let behind = get_or-set_other steps place (i + 1) step (end_step end) (λ e. omega (arith, e, from)) in
-      same_step c _ _ _ _ _ _ same refl (ap (λ (s : Step). s.state) behind) (back.each i (omega (arith, from, there)) below))
-      (cases_eq i place);
-}
-
--- the steps before stay
-pub steps_before : (c : CodeData) (blocks : List Block) (steps : List Step) (end start place n : ℕ) (step : Step) → n ≤ place → AreSteps c blocks steps end start (n)
-    → (n ≡ 0 → ⊥) → AreSteps c blocks (set steps place step) end start (n - 1)
-steps_before c blocks steps end start place n step before front some = record {
-  each =
-      λ i from below.
-      let same = get_or-set_other steps place i step (end_step end) (λ e. omega (arith, e, below, before)) in
-      let behind = get_or-set_other steps place (i + 1) step (end_step end) (λ e. omega (arith, e, below, before)) in
-      same_step c _ _ _ _ _ _ same refl (ap (λ (s : Step). s.state) behind) (front.each i from (omega (arith, below)));
-}
-
--- a step that leaves the state to which the steps before it lead
-pub steps_met : (c : CodeData) (blocks : List Block) (steps : List Step) (end start place n : ℕ) (step : Step) → place < length steps → (step_at steps end place).state ≡ step.state
-    → AreSteps c blocks steps end start place → AreSteps c blocks (set steps place step) end place n → AreSteps c blocks (set steps place step) end start n
-steps_met c blocks steps end start place n step inside met front back = record {
-  each =
-      λ i from below.
-      ⊎_elim
-      (λ (before : i < place).
-      let same = get_or-set_other steps place i step (end_step end) (λ e. omega (arith, e, before)) in
-      let behind : (step_at (set steps place step) end (i + 1)).state ≡ (step_at steps end (i + 1)).state =
-      ⊎_elim
-      (λ (here : i + 1 ≡ place).
-      ap (λ m. (step_at (set steps place step) end m).state) here ∙ ap (λ (s : Step). s.state) (get_or-set_same steps place step (end_step end) inside) ∙ sym met
-      ∙ ap (λ m. (step_at steps end m).state) (sym here))
-      (λ (there : i + 1 ≡ place → ⊥). ap (λ (s : Step). s.state) (get_or-set_other steps place (i + 1) step (end_step end) there))
-      (cases_eq (i + 1) place) in
-      same_step c _ _ _ _ _ _ same refl behind (front.each i from before))
-      (λ (behind : place ≤ i). back.each i behind below)
-      (cases_lt i place);
-}
-
 -- what the steps write
 output_steps : (c : CodeData) (blocks : List Block) (steps : List Step) (end : ℕ) → length steps ≡ length blocks → AreSteps c blocks steps end 0 (length blocks)
     → output_from c.rows (step_at steps end 0).state (map (λ (s : Step). s.word) steps) ≡ blocks

@@ -85,14 +85,14 @@ impl Survivors {
     /// Reaches the states to which the state's arcs with the block of this number lead.
     #[inline]
     fn lead_on(&mut self, number: u16, state: u16) {
-        let mut next = self.table.first(number, state);
-        for _ in 0..256 {
-            let Some(word) = next else {
-                return;
+        let (start, end) = self.table.range(number, state);
+        for i in start..end {
+            let arc = self.table.arc(i);
+            let step = Step {
+                state,
+                word: arc.word,
             };
-            let (to, other) = self.table.arc(state, word);
-            self.reach(Step { state, word }, to);
-            next = other;
+            self.reach(step, arc.to);
         }
     }
 

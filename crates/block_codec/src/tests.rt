@@ -307,41 +307,51 @@ fn texts_of_known_codes_give_their_files(rt: HostRuntime) -> Result<(), Fail> {
 
 /// Gives both decoders the blocks of all octal numbers of four digits, one behind the other, and shows that
 /// they answer alike: all windows of three blocks stand among them, behind right blocks and behind wrong ones.
-#[test]
-fn walks_answer_as_the_definition(rt: HostRuntime) -> Result<(), Fail> {
-    let alloc = rt.alloc();
-    let code = no_two_zeros(alloc)?;
-    let mut walks = WalkDecoder::for_code(alloc, &code)?;
-    let mut plain = BlockDecoder::for_code(alloc, &code)?;
+fn answer_alike(rt: &impl Abort, alloc: Global, code: &Code) -> Result<(), Fail> {
+    let mut walks = WalkDecoder::for_code(alloc, code)?;
+    let mut plain = BlockDecoder::for_code(alloc, code)?;
     for digit in 0..4 * 4096u32 {
         let number = digit / 4;
         let block = Block {
             value: u64::from(number >> (3 * (digit % 4)) & 7),
         };
-        assert!(rt; walks.take_block(&code, block) == plain.take_block(&code, block));
+        assert!(rt; walks.take_block(code, block) == plain.take_block(code, block));
     }
     Ok(())
 }
 
-/// A walk that is found anew behind a wrong block, by known blocks of a code whose windows look back.
+#[test]
+fn walks_answer_as_the_definition(rt: HostRuntime) -> Result<(), Fail> {
+    let alloc = rt.alloc();
+    let code = no_two_zeros(alloc)?;
+    answer_alike(&rt, alloc, &code)
+}
+
+/// Gives a decoder blocks, and shows that these are its answers.
+fn are_answers(
+    rt: &impl Abort,
+    alloc: Global,
+    code: &Code,
+    blocks: &[u64],
+    words: &[Option<u32>],
+) -> Result<(), Fail> {
+    assert!(rt; blocks.len() == words.len());
+    let mut decoder = WalkDecoder::for_code(alloc, code)?;
+    for i in 0..blocks.len() {
+        let block = Block { value: blocks[i] };
+        assert!(rt; decoder.take_block(code, block) == words[i]);
+    }
+    Ok(())
+}
+
 #[test]
 fn walks_are_found_again_behind_a_wrong_block(rt: HostRuntime) -> Result<(), Fail> {
     let alloc = rt.alloc();
     let code = mfm(alloc)?;
-    let mut decoder = WalkDecoder::for_code(alloc, &code)?;
-    for (value, word) in [
-        (2, None),
-        (2, None),
-        (1, Some(1)),
-        (3, Some(0)),
-        (0, Some(0)),
-        (2, Some(0)),
-        (1, Some(1)),
-        (0, Some(0)),
-    ] {
-        assert!(rt; decoder.take_block(&code, Block { value }) == word);
-    }
-    Ok(())
+    let blocks = [2, 2, 1, 3, 0, 2, 1, 0];
+    let (zero, one) = (Some(0), Some(1));
+    let words = [None, None, one, zero, zero, zero, one, zero];
+    are_answers(&rt, alloc, &code, &blocks, &words)
 }
 
 #[test]

@@ -1,5 +1,5 @@
-use Rattle.std.proofs.Common.{refl, length, arith}
-use Rattle.block_codec.proofs.WalkingLaws.{steps_none, steps_end, steps_ended, steps_grown, steps_before, steps_met}
+use Rattle.std.proofs.Common.{length, arith}
+use Rattle.block_codec.proofs.WalkingLaws.{steps_none, steps_end, steps_ended}
 use Rattle.block_codec.proofs.walk.Walk.trace.Goals as goal
 
 pub loop-at-init : goal.loop-at-init
