@@ -2,4 +2,4 @@ use Rattle.block_codec.specs.inside.WalkDecoding.{IsWalkDecoderFor}
 use Rattle.block_codec.proofs.tests.are_answers.Given as goal
 
 abbrev pub invariant-loop-i : goal.invariant-loop-i
-invariant-loop-i l = IsWalkDecoderFor l.code l.decoder
+invariant-loop-i g l = IsWalkDecoderFor l.code l.decoder
