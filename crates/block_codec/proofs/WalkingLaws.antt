@@ -1,12 +1,12 @@
 -- A walk over the last blocks: how it is moved, how it grows from behind, and that it answers the window.
-use Rattle.std.proofs.Common.{◌≡◌, ℕ, suc, ◌+◌, ◌-◌, ◌<◌, ◌≤◌, ⊎_elim, List, [], ◌∷◌, ◌++◌, length, get_or, set, take, drop, map, refl, sym, ap, ap₂, ◌∙◌, subst, arith, add-one}
-use Rattle.std.proofs.lemmas.Bool.{cases_eq, cases_lt}
-use Rattle.std.proofs.lemmas.List.{get_or-drop, get_or-map, get_or-set_same, get_or-set_other, get_or_append_left, get_or_push, get_or_default, get_or_past, length-append, length-drop, length-set}
+use Rattle.std.proofs.Common.{◌≡◌, ℕ, suc, ◌+◌, ◌-◌, ◌<◌, ◌≤◌, ⊎_elim, List, [], ◌∷◌, ◌++◌, length, get_or, drop, map, refl, sym, ap, ◌∙◌, subst, arith, add-one}
+use Rattle.std.proofs.lemmas.Bool.{cases_lt}
+use Rattle.std.proofs.lemmas.List.{get_or-drop, get_or-map, get_or_append_left, get_or_push, get_or_default, get_or_past, length-append, length-drop}
 use Rattle.std.proofs.lemmas.List.Elements.{All-map}
 use Rattle.symbol_base.specs.declared.Block.{Block}
-use Rattle.code_spec.specs.Code.{CodeData, IsState, IsDataWord, IsDataWords}
-use Rattle.code_spec.specs.Output.{row_at, output, output_from}
-use Rattle.code_spec.specs.Decoder.{IsFound, IsDecoded}
+use Rattle.code_spec.specs.Code.{CodeData, IsDataWord}
+use Rattle.code_spec.specs.Output.{row_at, output_from}
+use Rattle.code_spec.specs.Decoder.{IsFound}
 use Rattle.block_codec.specs.Decoding.{block_of}
 use Rattle.block_codec.specs.declared.survivors.Step.{Step}
 use Rattle.block_codec.specs.declared.walk.Walk.{Walk}

@@ -1,4 +1,4 @@
-use Rattle.std.proofs.Common.{◌+◌, ◌≤◌, ◌∷◌, [], ◌++◌, ◌∙◌, min, ap, arith, drop, List}
+use Rattle.std.proofs.Common.{◌+◌, ◌∷◌, [], ◌++◌, ◌∙◌, min, ap, arith, drop, List}
 use Rattle.symbol_base.specs.declared.Block.{Block}
 use Rattle.code_spec.specs.Code.{CodeData}
 use Rattle.code_spec.specs.Decoder.{window_length}

@@ -1,6 +1,6 @@
-use Rattle.std.proofs.Common.{◌≤◌, ◌∷◌, [], ◌++◌, subst, List, arith}
+use Rattle.std.proofs.Common.{◌∷◌, [], ◌++◌, subst, List}
 use Rattle.symbol_base.specs.declared.Block.{Block}
-use Rattle.code_spec.specs.Decoder.{window_length, IsDecoded}
+use Rattle.code_spec.specs.Decoder.{IsDecoded}
 use Rattle.block_codec.proofs.Comings.{answer_came}
 use Rattle.block_codec.proofs.block_decoder.BlockDecoder.take_block.Goals as goal
 

@@ -1,4 +1,4 @@
-use Rattle.std.proofs.Common.{inl, ℕ, ap, ◌≡◌, ◌<◌, ◌∙◌, get_or, length, sym, subst, arith}
+use Rattle.std.proofs.Common.{inl, ap, ◌≡◌, ◌<◌, ◌∙◌, get_or, length, sym, subst, arith}
 use Rattle.code_spec.specs.Code.{CodeData}
 use Rattle.code_spec.specs.Decoder.{IsFound}
 use Rattle.block_codec.specs.declared.survivors.Step.{Step}
