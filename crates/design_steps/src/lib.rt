@@ -8,6 +8,3 @@ mod stages;
 
 pub use beginning::{Begun, begin};
 pub use edges::count_edges;
-
-#[cfg(test)]
-mod tests;
