@@ -78,8 +78,8 @@ fn write_row(
     Ok(())
 }
 
-/// One digit for each symbol of a block.
-fn write_block(block: Block, q: u32, alphabet: u8, text: &mut String) -> Result<(), NoMemory>
+/// Writes one digit for each of the `q` symbols of a block.
+pub fn write_block(block: Block, q: u32, alphabet: u8, text: &mut String) -> Result<(), NoMemory>
     requires short { q ≤ 20 }
     requires least { 2 ≤ alphabet }
     requires most { alphabet ≤ 4 }

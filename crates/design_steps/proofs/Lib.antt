@@ -4,3 +4,4 @@ pub mod MemoryLaws
 pub mod PowerLaws
 pub mod SinkLaws
 pub mod VectorLaws
+pub mod ChainLaws

@@ -6,9 +6,12 @@ use Rattle.std.proofs.lemmas.List.{get_or_past}
 use Rattle.std.specs.List.{sum}
 use Rattle.label_graphs.specs.Graph.{EdgeData, IsGraph, HasEdge}
 use Rattle.label_graphs.specs.Sink.{AreEdgesAmong, spread}
+use Rattle.label_graphs.specs.Vector.{MeetsInequality, target_sum}
 use Rattle.label_graphs.proofs.EdgeOrder.{same_graphs}
 use Rattle.label_graphs.proofs.OneSink.{one_least_sink}
 use Rattle.label_graphs.proofs.Renumbered.{target_of}
+use Rattle.split_spec.specs.Weighted.{IsWeighted}
+use Rattle.split_spec.proofs.SinkWeights.{a_sink_is_weighted}
 use Rattle.command_steps.specs.declared.status.Limit.TheVariants.{Weight, Spread}
 use Rattle.command_steps.specs.declared.status.Status.{Status}
 use Rattle.command_steps.specs.declared.status.Status.TheVariants.{TooLarge}
@@ -17,6 +20,7 @@ use Rattle.command_steps.specs.Promise.{Decides}
 use Rattle.command_steps.proofs.StepLaws.{reads_value, reads_is_single, needs_is_single, needs_met, needs_unmet, then_is_single, gives_is_single, too_large_is_refusal}
 use Rattle.sink_part.specs.declared.parts.SinkGraph.{SinkGraph}
 use Rattle.design_steps.specs.Sinks.{SinkData, IsSinkOf, FindsSink, NeedsWeight, NeedsSpread, SinkOf}
+use Rattle.design_steps.specs.Chains.{weighted_sink}
 use Rattle.design_steps.specs.Views.{sink_data}
 
 -- ---- a power with weights has one sink
@@ -68,6 +72,14 @@ sink_is_single power x = search (then_is_single, finds_is_single, needs_is_singl
 
 pub sink_is_found : (power : List (List EdgeData)) (x : List ℕ) (sink : SinkGraph) → IsSinkOf power x (sink_data sink) → Decides sink_data (FindsSink power x) (Ok sink)
 sink_is_found power x sink is = reads_value (IsSinkOf power x) (λ (none : Status). ⊥) (λ (none : Status). none) sink_data sink is
+
+-- a sink whose weights meet the inequality is a graph of which a code can be split
+pub sink_is_weighted : (power : List (List EdgeData)) (x : List ℕ) (sink : SinkData) (n : ℕ) → IsSinkOf power x sink → MeetsInequality (target_sum sink.rows) n sink.weights
+    → IsWeighted n (weighted_sink sink)
+sink_is_weighted power x sink n is enough =
+    subst (λ (w : List ℕ). IsWeighted n (record { rows = sink.rows; weights = w })) (sym is.weights)
+    (a_sink_is_weighted n power sink.rows x sink.states is.least.sink is.graph is.size is.edges
+    (subst (λ (w : List ℕ). MeetsInequality (target_sum sink.rows) n w) is.weights enough))
 
 pub weight_is_within : (sink : SinkData) (total : ℕ) → total ≡ sum sink.weights → total ≤ 512 → Decides (λ (done : Unit {0}). done) (NeedsWeight sink) (Ok tt)
 weight_is_within sink total is within = needs_met (sum sink.weights ≤ 512) (TooLarge (Weight (sum sink.weights))) (omega (arith, is, within))

@@ -1,4 +1,5 @@
 pub mod Begun
+pub mod Chains
 pub mod Covers
 pub mod Memories
 pub mod Powers

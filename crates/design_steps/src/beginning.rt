@@ -1,8 +1,11 @@
-ghost use Rattle.std.specs.Prelude.{◌≤◌, IfOk};
+ghost use Rattle.std.specs.Prelude.{◌≤◌, ◌^◌, IfOk};
+ghost use Rattle.std.specs.List.{sum};
 ghost use Rattle.label_graphs.specs.Power.{edge_count};
+ghost use Rattle.split_spec.specs.Weighted.{IsWeighted};
 ghost use Rattle.command_steps.specs.Promise.{Decides};
 ghost use Rattle.design_steps.specs.Begun.{BeginsWith};
-ghost use Rattle.design_steps.specs.Views.{begun_data};
+ghost use Rattle.design_steps.specs.Chains.{weighted_sink};
+ghost use Rattle.design_steps.specs.Views.{begun_data, sink_data};
 
 use crate::stages::{cover_of, memory_of, power_of, sink_of, vector_of};
 use command_steps::Status;
@@ -47,6 +50,8 @@ pub fn begin(
     requires bound_most { bound ≤ 64 }
     ensures step { Decides begun_data (BeginsWith constraint.now p q bound) result }
     ensures few { IfOk result (λ begun. edge_count begun.power ≤ 262144) }
+    ensures weighted { IfOk result (λ begun. IsWeighted (2 ^ p) (weighted_sink (sink_data begun.sink))) }
+    ensures light { IfOk result (λ begun. sum begun.sink.weights ≤ 512) }
 {
     let cover = cover_of(alloc, constraint)?;
     let memory = memory_of(alloc, &cover)?;

@@ -1,10 +1,12 @@
-//! What the design of a code begins with, up to the sink in which states are split: a row of steps, each
-//! with the status that it is refused with.
+//! The design of a code up to its last round of splitting: a row of steps, each with the status that it is
+//! refused with.
 #![tactic(auto)]
 
 mod beginning;
 mod edges;
+mod splitting;
 mod stages;
 
 pub use beginning::{Begun, begin};
 pub use edges::count_edges;
+pub use splitting::{SplitDesign, split};

@@ -1,13 +1,16 @@
 ghost use Rattle.std.specs.Prelude.{◌≡◌, ℕ, ◌≤◌, ◌^◌, IfNone, IfOk, IfSome, List, length};
+ghost use Rattle.std.specs.List.{sum};
 ghost use Rattle.label_graphs.specs.Graph.{EdgeData};
 ghost use Rattle.label_graphs.specs.Power.{IsPower, edge_count};
 ghost use Rattle.label_graphs.specs.Vector.{IsNonzero, MeetsInequality, target_sum};
+ghost use Rattle.split_spec.specs.Weighted.{IsWeighted};
 ghost use Rattle.command_steps.specs.Promise.{Decides};
 ghost use Rattle.design_steps.specs.Covers.{CoverOf};
 ghost use Rattle.design_steps.specs.Memories.{MemoryOf};
 ghost use Rattle.design_steps.specs.Powers.{PowerOf};
 ghost use Rattle.design_steps.specs.Vectors.{HasNoVector, IsLeastVector, VectorOf};
 ghost use Rattle.design_steps.specs.Sinks.{FindsSink, NeedsWeight, NeedsSpread, SinkOf};
+ghost use Rattle.design_steps.specs.Chains.{weighted_sink};
 ghost use Rattle.design_steps.specs.Views.{sink_data, vector_data};
 
 use command_steps::{Limit, Status};
@@ -130,7 +133,9 @@ pub fn sink_of(
     requires nonzero { IsNonzero weights.now }
     requires inequality { MeetsInequality (target_sum power.now) n weights.now }
     requires few { edge_count power.now ≤ 262144 }
-    ensures { Decides sink_data (SinkOf power.now weights.now) result }
+    ensures step { Decides sink_data (SinkOf power.now weights.now) result }
+    ensures weighted { IfOk result (λ sink. IsWeighted n (weighted_sink (sink_data sink))) }
+    ensures light { IfOk result (λ sink. sum sink.weights ≤ 512) }
 {
     let sink = found_sink(alloc, power, weights, n)?;
     test_weight(&sink)?;
@@ -150,6 +155,7 @@ fn found_sink(
     requires inequality { MeetsInequality (target_sum power.now) n weights.now }
     requires few { edge_count power.now ≤ 262144 }
     ensures step { Decides sink_data (FindsSink power.now weights.now) result }
+    ensures weighted { IfOk result (λ sink. IsWeighted n (weighted_sink (sink_data sink))) }
     ensures size { IfOk result (λ sink. length sink.weights ≡ length sink.graph) }
     ensures few { IfOk result (λ sink. edge_count sink.graph ≤ 262144) }
 {
@@ -158,7 +164,8 @@ fn found_sink(
 
 /// Refuses a sink whose states weigh too much.
 fn test_weight(sink: &SinkGraph) -> Result<(), Status>
-    ensures { Decides (λ done. done) (NeedsWeight (sink_data sink.now)) result }
+    ensures step { Decides (λ done. done) (NeedsWeight (sink_data sink.now)) result }
+    ensures light { IfOk result (λ done. sum sink.now.weights ≤ 512) }
 {
     let total = sink.weights.total();
     if total > MOST_WEIGHT {

@@ -8,3 +8,4 @@ pub mod Sums
 pub mod KeptSums
 pub mod KeptCounts
 pub mod OneSink
+pub mod Composed

@@ -1,12 +1,13 @@
 //! Graphs with a block on each edge, and the cover of a set of words.
 #![tactic(auto)]
 
-ghost use Rattle.std.specs.Prelude.{◌≡◌, ◌↔◌, ℕ, ◌<◌, Bool, true, false, List, length, map, slice_index, slice_index_or};
+ghost use Rattle.std.specs.Prelude.{◌≡◌, ◌↔◌, ℕ, ◌<◌, All, Bool, true, false, List, length, map, slice_index, slice_index_or};
 ghost use Rattle.label_graphs.specs.Graph.{EdgeData, HasEdge, IsGraph};
 ghost use Rattle.label_graphs.specs.Cover.{CoverData, IsCoverOf};
 ghost use Rattle.label_graphs.specs.Kept.{IsKept, marked_states};
 ghost use Rattle.label_graphs.specs.Matrix.{CountsEdges};
 ghost use Rattle.label_graphs.specs.Power.{IsPower};
+ghost use Rattle.label_graphs.specs.Refinement.{KeepsEdges, parents_of};
 ghost use Rattle.label_graphs.specs.Sink.{IsLeastSink};
 ghost use Rattle.label_graphs.specs.Vector.{row_sum, target_sum};
 
@@ -21,7 +22,7 @@ pub use graph::{Cover, Edge, Graph};
 pub use kept::keep;
 pub use matrix::Matrix;
 pub use reached::reach;
-pub use refinement::Refinement;
+pub use refinement::{Refinement, compose};
 pub use weights::Weights;
 
 /// Words have one cover: two of the same words have the same states and the same edges.
@@ -61,6 +62,14 @@ pub fn kept_states_keep_their_sums()
         → slice_index_or marks to false ≡ false → slice_index x to ≡ 0)
         → target_sum kept (map (λ s. slice_index x s) (marked_states marks)) state
         ≡ target_sum rows x (slice_index (marked_states marks) state) }
+{}
+
+/// What is composed of two refinements that keep edges keeps them.
+pub fn composed_refinements_keep_edges()
+    ensures { (fine middle coarse : List (List EdgeData)) (parents grandparents : List ℕ)
+        → length parents ≡ length fine → All (All (λ e. e.to < length fine)) fine
+        → KeepsEdges fine middle parents → KeepsEdges middle coarse grandparents
+        → KeepsEdges fine coarse (parents_of grandparents parents) }
 {}
 
 #[cfg(test)]

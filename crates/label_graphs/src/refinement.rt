@@ -1,7 +1,9 @@
-ghost use Rattle.std.specs.Prelude.{◌≡◌, ◌<◌, ◌^◌, length, map, slice_index};
+ghost use Rattle.std.specs.Prelude.{◌≡◌, ◌<◌, ◌^◌, All, IfOk, length, map, slice_index};
+ghost use Rattle.label_graphs.specs.Refinement.{parents_of};
 
+use std::alloc::Global;
 use std::marker::{Model, PhantomData};
-use symbol_base::Name;
+use symbol_base::{Name, NoMemory};
 
 /// For each state of a finer graph its parent, the state of a coarser graph of which it is a part.
 ///
@@ -48,4 +50,23 @@ impl<F: Name, C: Name> Refinement<F, C> {
     {
         self.parents[fine.index() as usize]
     }
+}
+
+/// The refinement of the coarsest graph by the finest, where one graph is refined twice: the parent of
+/// each fine state is the parent under `coarse` of its parent under `fine`.
+///
+/// What is composed keeps the edges, as both refinements do; but where both divide edges, the composed one need not.
+pub fn compose<A: Name, B: Name, C: Name>(
+    alloc: Global,
+    fine: &Refinement<A, B>,
+    coarse: &Refinement<B, C>,
+) -> Result<Refinement<A, C>, NoMemory>
+    requires { All (λ parent. parent < length coarse.now) fine.now }
+    ensures { IfOk result (λ composed. composed ≡ parents_of coarse.now fine.now) }
+{
+    let mut parents = Vec::with_capacity(alloc, fine.len() as usize)?;
+    for state in 0..fine.len() {
+        parents.push(coarse.parent(fine.parent(A::at(state))))?;
+    }
+    Ok(Refinement::from_parents(parents))
 }

@@ -1,9 +1,9 @@
 ghost use Rattle.std.specs.Prelude.{◌≡◌};
 
-use crate::{Edge, Graph, Matrix, Refinement, Weights, keep, reach};
+use crate::{Edge, Graph, Matrix, Refinement, Weights, compose, keep, reach};
 use std::alloc::Global;
 use std::process::Abort;
-use symbol_base::{Block, CoverName, Name, NoMemory, SplitName};
+use symbol_base::{Block, CodeName, CoverName, Name, NoMemory, SplitName};
 
 fn edge(block: u64, to: u32) -> Edge<SplitName>
     ensures { result ≡ record { block = record { value = block }; to = to } }
@@ -138,5 +138,19 @@ fn a_refinement_gives_the_parents(rt: HostRuntime) -> Result<(), NoMemory> {
     assert_eq!(rt; refinement.len(), 3);
     assert_eq!(rt; refinement.parent(SplitName::at(1)).index(), 2);
     assert_eq!(rt; refinement.parent(SplitName::at(2)).index(), 4);
+    Ok(())
+}
+
+#[test]
+fn composed_refinements_give_the_parents_parents(rt: HostRuntime) -> Result<(), NoMemory> {
+    let alloc = rt.alloc();
+    let middle = vec![in alloc; SplitName::at(1), SplitName::at(0), SplitName::at(1)]?;
+    let coarse = vec![in alloc; CoverName::at(7), CoverName::at(3)]?;
+    let fine: Refinement<CodeName, SplitName> = Refinement::from_parents(middle);
+    let composed = compose(alloc, &fine, &Refinement::from_parents(coarse))?;
+    assert_eq!(rt; composed.len(), 3);
+    assert_eq!(rt; composed.parent(CodeName::at(0)).index(), 3);
+    assert_eq!(rt; composed.parent(CodeName::at(1)).index(), 7);
+    assert_eq!(rt; composed.parent(CodeName::at(2)).index(), 3);
     Ok(())
 }

@@ -22,7 +22,7 @@ use Rattle.code_spec.specs.Checked.{IsCheckedCode}
 use Rattle.workbench.specs.Rows.{row_of}
 use Rattle.workbench.proofs.CheckLaws.{checked_is_single}
 use Rattle.workbench.proofs.ConstraintLaws.{constraint_is_single}
-use Rattle.design_steps.proofs.BegunLaws.{begun_is_single}
+use Rattle.design_steps.proofs.ChainLaws.{split_is_single}
 
 code_is_single : (bytes : List ℕ) → IsSingle (CodeOf bytes)
 code_is_single bytes = reads_is_single (IsCodeText bytes) (IsWrongLine bytes) (λ line. CodeRefused (BadCode line)) (one_code bytes) (one_wrong_line bytes) (no_wrong_line bytes)
@@ -45,7 +45,7 @@ check_is_single code = search (then_is_single, checked_file_is_single, gives_is_
 
 explain_is_single : (constraint : List ℕ) (p q bound : ℕ) → IsSingle (explain_row constraint p q bound)
 unfolding explain_row
-explain_is_single constraint p q bound = search (then_is_single, constraint_file_is_single, begun_is_single, gives_is_single)
+explain_is_single constraint p q bound = search (then_is_single, constraint_file_is_single, split_is_single, gives_is_single)
 
 encode_is_single : (code source : List ℕ) → IsSingle (encode_row code source)
 unfolding encode_row

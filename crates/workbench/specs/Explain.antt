@@ -1,4 +1,4 @@
--- `explain CONSTRAINT P Q BOUND`: the design of a code for a constraint, as far as its sink.
+-- `explain CONSTRAINT P Q BOUND`: the design of a code for a constraint, up to its last round of splitting.
 use Rattle.std.specs.Prelude.{ℕ, ◌+◌, List, [], ◌∷◌, ◌++◌, length, map, codes}
 use Rattle.std.specs.Fmt.{decimal}
 use Rattle.code_text_spec.specs.CodeText.{spaced, text_of}
@@ -7,8 +7,10 @@ use Rattle.label_graphs.specs.Power.{edge_count}
 use Rattle.command_steps.specs.FaultLines.{behind_spaces}
 use Rattle.command_steps.specs.Step.{Step, ◌>>=◌, Gives}
 use Rattle.command_steps.specs.Answer.{Answer, prints}
-use Rattle.design_steps.specs.Begun.{BegunData, BeginsWith}
+use Rattle.design_steps.specs.Begun.{BegunData}
+use Rattle.design_steps.specs.Chains.{SplitDesignData, SplitsInto}
 use Rattle.workbench.specs.Inputs.{ConstraintAt}
+use Rattle.workbench.specs.SplitLines.{chain_lines}
 
 -- an edge by its state, its symbol and its target
 abbrev pub edge_line : ℕ → EdgeData → List ℕ
@@ -25,8 +27,8 @@ cover_lines rows = spaced (codes "cover") (decimal (length rows)) ∷ edge_lines
 
 -- the memory behind them, how many edges the power has, the least bound and the weights within it, and the states
 -- of the sink
-abbrev pub explain_lines : BegunData → List (List ℕ)
-explain_lines begun =
+abbrev pub begun_lines : BegunData → List (List ℕ)
+begun_lines begun =
     cover_lines begun.cover.graph
     ++ spaced (codes "memory") (decimal begun.memory)
     ∷ spaced (codes "power") (decimal (edge_count begun.power))
@@ -35,8 +37,14 @@ explain_lines begun =
     ∷ (codes "sink" ++ behind_spaces begun.sink.states)
     ∷ []
 
+-- and behind these the rounds of splitting
+abbrev pub explain_lines : ℕ → SplitDesignData → List (List ℕ)
+explain_lines q design =
+    begun_lines design.begun
+    ++ chain_lines design.begun.cover.alphabet q (length design.begun.sink.rows) design.chain
+
 unfoldable pub explain_row : List ℕ → ℕ → ℕ → ℕ → Step Answer
 explain_row constraint_name p q bound = do
   constraint ← ConstraintAt constraint_name
-  begun ← BeginsWith constraint p q bound
-  Gives (prints (text_of (explain_lines begun)))
+  design ← SplitsInto constraint p q bound
+  Gives (prints (text_of (explain_lines q design)))

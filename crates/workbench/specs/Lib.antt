@@ -2,6 +2,7 @@ pub mod Limits
 pub mod Forms
 pub mod Inputs
 pub mod CheckedCodes
+pub mod SplitLines
 pub mod Explain
 pub mod Check
 pub mod Decode

@@ -1,22 +1,24 @@
-ghost use Rattle.std.specs.Prelude.{◌≡◌, ◌++◌, ◌≤◌, map, string_bytes, IfOk, OnOk};
+ghost use Rattle.std.specs.Prelude.{◌≡◌, ◌+◌, ◌++◌, ◌≤◌, length, map, string_bytes, IfOk, OnOk};
 ghost use Rattle.code_text_spec.specs.CodeText.{text_of};
 ghost use Rattle.label_graphs.specs.Power.{edge_count};
 ghost use Rattle.label_graphs.specs.Views.{edge_data};
 ghost use Rattle.command_steps.specs.FaultLines.{behind_spaces};
 ghost use Rattle.command_steps.specs.Promise.{Follows, seen};
-ghost use Rattle.design_steps.specs.Views.{begun_data};
-ghost use Rattle.workbench.specs.Explain.{edge_line, cover_lines, explain_lines, explain_row};
+ghost use Rattle.split_spec.specs.Chain.{split_count};
+ghost use Rattle.design_steps.specs.Views.{split_design_data};
+ghost use Rattle.workbench.specs.Explain.{edge_line, begun_lines, cover_lines, explain_lines, explain_row};
 
 use crate::constraint_file::read_constraint_file;
+use crate::split_text::write_chain;
 use command_steps::{Reply, Status};
-use design_steps::{Begun, begin, count_edges};
+use design_steps::{SplitDesign, count_edges, split};
 use label_graphs::{Cover, Edge, Refinement, Weights};
 use shelf_io::Shelf;
 use std::alloc::Global;
 use symbol_base::{CoverName, Name, NoMemory, SplitName};
 
-/// The answer of `explain`: what a design with `p` data bits for `q` symbols and weights up to `bound`
-/// begins with, for the constraint of a constraint file, as it is printed.
+/// The answer of `explain`: a design with `p` data bits for `q` symbols and weights up to `bound`, up to its
+/// last round of splitting, for the constraint of a constraint file, as it is printed.
 #[tactic(auto, using(command_steps::proofs::StepLaws::rows), unfolding(crate::specs::Explain::explain_row))]
 pub fn explain<F: Shelf>(
     alloc: Global,
@@ -35,26 +37,38 @@ pub fn explain<F: Shelf>(
     ensures { Follows (λ r. r) (explain_row constraint.now p q bound) (seen F.files F.faults shelf.old) (seen F.files F.faults shelf.new) result }
 {
     let constraint = read_constraint_file(alloc, shelf, constraint)?;
-    let begun = begin(alloc, &constraint, p, q, bound)?;
-    Ok(Reply::prints(explain_text(alloc, &begun)?))
+    let design = split(alloc, &constraint, p, q, bound)?;
+    Ok(Reply::prints(explain_text(alloc, &design, q)?))
+}
+
+/// The lines of a design up to its last round.
+fn explain_text(alloc: Global, design: &SplitDesign, q: u32) -> Result<String, NoMemory>
+    requires short { q ≤ 20 }
+    requires edges { edge_count design.now.power ≤ 262144 }
+    requires splits { split_count design.now.chain.rounds.items + length design.now.chain.sink.graph ≤ 512 }
+    ensures { IfOk result (λ text. string_bytes text ≡ text_of (explain_lines q (split_design_data design.now))) }
+{
+    let mut text = begun_text(alloc, design)?;
+    write_chain(&design.chain, design.cover.alphabet, q, &mut text)?;
+    Ok(text)
 }
 
 /// The lines of what a design begins with.
-fn explain_text(alloc: Global, begun: &Begun) -> Result<String, NoMemory>
-    requires { edge_count begun.now.power ≤ 262144 }
-    ensures { IfOk result (λ text. string_bytes text ≡ text_of (explain_lines (begun_data begun.now))) }
+fn begun_text(alloc: Global, design: &SplitDesign) -> Result<String, NoMemory>
+    requires { edge_count design.now.power ≤ 262144 }
+    ensures { IfOk result (λ text. string_bytes text ≡ text_of (begun_lines (split_design_data design.now).begun)) }
 {
-    let mut text = cover_text(alloc, &begun.cover)?;
-    let memory = begun.memory;
-    let edges = count_edges(&begun.power);
-    let bound = begun.bound;
+    let mut text = cover_text(alloc, &design.cover)?;
+    let memory = design.memory;
+    let edges = count_edges(&design.power);
+    let bound = design.bound;
     write!(
         text,
         "memory {memory}\npower {edges}\nbound {bound}\nweights"
     )?;
-    write_weights(&begun.weights, &mut text)?;
+    write_weights(&design.weights, &mut text)?;
     text.push_str("\nsink")?;
-    write_parents(&begun.sink.parents, &mut text)?;
+    write_parents(&design.chain.sink.parents, &mut text)?;
     text.push('\n')?;
     Ok(text)
 }

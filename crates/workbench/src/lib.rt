@@ -9,6 +9,7 @@ mod constraint_file;
 mod decode;
 mod encode;
 mod explain;
+mod split_text;
 #[cfg(test)]
 mod tests;
 mod top;

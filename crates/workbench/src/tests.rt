@@ -314,32 +314,37 @@ const ALL_KEYS: &[u8] =
     b"alphabet = 2\nd = 0\nk = 3\nforbid = [\"11\"]\n[[edge]]\nfrom = \"A\"\nlabel = \"0\"\nto = \"A\"\n";
 
 #[test]
-fn a_constraint_is_explained_up_to_its_sink(rt: HostRuntime) -> Result<(), Fail> {
-    let table: [(&[u8], &[&str], &[u8]); 5] = [
+fn a_design_is_explained_up_to_its_last_round(rt: HostRuntime) -> Result<(), Fail> {
+    let table: [(&[u8], &[&str], &[u8]); 6] = [
         (
             D0_K1,
             EXPLAIN,
-            b"cover 2\n0 0 1\n0 1 0\n1 1 0\nmemory 1\npower 8\nbound 2\nweights 2 1\nsink 0 1\n",
+            b"cover 2\n0 0 1\n0 1 0\n1 1 0\nmemory 1\npower 8\nbound 2\nweights 2 1\nsink 0 1\nround 1\nsplit 0 2 1 010>1 110>1 011>0\nrounds 1\nkept 0 1 2\n",
         ),
         (
             D1_K3,
             &["explain", "constraint", "1", "2", "1"],
-            b"cover 5\n0 0 1\n0 1 2\n1 0 3\n1 1 2\n2 0 1\n3 0 4\n3 1 2\n4 1 2\nmemory 3\npower 11\nbound 1\nweights 1 1 1 1 0\nsink 1 2 3\n",
+            b"cover 5\n0 0 1\n0 1 2\n1 0 3\n1 1 2\n2 0 1\n3 0 4\n3 1 2\n4 1 2\nmemory 3\npower 11\nbound 1\nweights 1 1 1 1 0\nsink 1 2 3\nrounds 0\nkept 0 1 2\n",
         ),
         (
             D1_K7,
             &["explain", "constraint", "2", "3", "64"],
-            b"cover 9\n0 0 1\n0 1 2\n1 0 3\n1 1 2\n2 0 1\n3 0 4\n3 1 2\n4 0 5\n4 1 2\n5 0 6\n5 1 2\n6 0 7\n6 1 2\n7 0 8\n7 1 2\n8 1 2\nmemory 7\npower 37\nbound 3\nweights 3 3 2 3 3 2 2 2 1\nsink 1 2 3 4 5 6 7 8\n",
+            b"cover 9\n0 0 1\n0 1 2\n1 0 3\n1 1 2\n2 0 1\n3 0 4\n3 1 2\n4 0 5\n4 1 2\n5 0 6\n5 1 2\n6 0 7\n6 1 2\n7 0 8\n7 1 2\n8 1 2\nmemory 7\npower 37\nbound 3\nweights 3 3 2 3 3 2 2 2 1\nsink 1 2 3 4 5 6 7 8\nround 1\nsplit 0 8 1 000>4 001>1\nsplit 2 9 1 000>5 001>1\nsplit 3 10 1 000>6 001>1\nsplit 4 11 1 001>1 101>1\nsplit 5 12 1 001>1 101>1\nround 2\nsplit 1 13 1 000>3 010>0 000>10\nsplit 6 14 1 010>0 100>2 010>8\nsplit 8 15 1 010>0 100>2 010>8\nsplit 9 16 1 010>0 100>2 010>8\nsplit 10 17 1 010>0 100>2 010>8\nrounds 2\nkept 0 1 2 3 4 5 6 7 8 9 10 11 12 13 14 15 16 17\n",
         ),
         (
             D2_K7,
             &["explain", "constraint", "1", "2", "4"],
-            b"cover 10\n0 0 1\n0 1 2\n1 0 3\n1 1 2\n2 0 4\n3 0 5\n3 1 2\n4 0 3\n5 0 6\n5 1 2\n6 0 7\n6 1 2\n7 0 8\n7 1 2\n8 0 9\n8 1 2\n9 1 2\nmemory 7\npower 24\nbound 4\nweights 4 4 2 4 3 4 3 3 2 1\nsink 2 3 4 5 6 7 8 9\n",
+            b"cover 10\n0 0 1\n0 1 2\n1 0 3\n1 1 2\n2 0 4\n3 0 5\n3 1 2\n4 0 3\n5 0 6\n5 1 2\n6 0 7\n6 1 2\n7 0 8\n7 1 2\n8 0 9\n8 1 2\n9 1 2\nmemory 7\npower 24\nbound 4\nweights 4 4 2 4 3 4 3 3 2 1\nsink 2 3 4 5 6 7 8 9\nround 1\nsplit 1 8 1 01>0\nsplit 2 9 1 01>0\nsplit 3 10 1 01>0\nsplit 4 11 1 00>6\nsplit 5 12 1 01>0\nsplit 6 13 1 01>0\nround 2\nsplit 8 14 1 00>4 10>2\nsplit 10 15 1 00>5 10>2\nsplit 11 16 1 01>0\nsplit 12 17 1 00>7 10>2\nround 3\nsplit 0 18 1 00>1 00>8\nsplit 9 19 1 00>3 00>10\nsplit 14 20 1 00>11 00>16\nsplit 15 21 1 00>12 00>17\nrounds 3\nkept 0 1 2 3 4 5 6 7 8 9 10 11 12 13 14 15 16 17 18 19 20 21\n",
+        ),
+        (
+            b"",
+            &["explain", "constraint", "1", "1", "1"],
+            b"cover 1\n0 0 0\n0 1 0\nmemory 0\npower 2\nbound 1\nweights 1\nsink 0\nrounds 0\nkept 0\n",
         ),
         (
             b"",
             &["explain", "constraint", "8", "18", "1"],
-            b"cover 1\n0 0 0\n0 1 0\nmemory 0\npower 262144\nbound 1\nweights 1\nsink 0\n",
+            b"cover 1\n0 0 0\n0 1 0\nmemory 0\npower 262144\nbound 1\nweights 1\nsink 0\nrounds 0\nkept 0\n",
         ),
     ];
     for (file, words, text) in table {
@@ -431,7 +436,7 @@ fn a_constraint_file_of_one_byte_more_than_1_mib_is_too_long(rt: HostRuntime) ->
         alloc,
         blank,
         EXPLAIN,
-        b"cover 1\n0 0 0\n0 1 0\nmemory 0\npower 8\nbound 1\nweights 1\nsink 0\n",
+        b"cover 1\n0 0 0\n0 1 0\nmemory 0\npower 8\nbound 1\nweights 1\nsink 0\nrounds 0\nkept 0\n",
     )
 }
 

@@ -1,0 +1,5 @@
+use Rattle.split_spec.proofs.RunAlone.{a_row_has_one_order}
+use Rattle.split_spec.proofs.runs.a_row_has_one_order.Goals as goal
+
+pub returns : goal.returns
+returns c = a_row_has_one_order

@@ -1,0 +1,5 @@
+pub mod Weighted
+pub mod Run
+pub mod Round
+pub mod Chain
+pub mod Window
