@@ -10,7 +10,7 @@ use std::rt::Files;
 use std::{fs, io};
 
 /// How many bytes are asked of the system at a time.
-const PIECE: usize = 4096;
+const PIECE: usize = 65536;
 
 #[derive(Drop)]
 struct Input<F> {

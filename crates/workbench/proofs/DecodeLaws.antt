@@ -1,22 +1,23 @@
--- What a text gives under a checked code is one, and the decoder gives it.
-use Rattle.std.proofs.Common.{◌≡◌, ℕ, List, [], length, drop, arith, Option, Result, Ok, Err, sym, ap, subst}
+-- What a text gives under a checked code is one, and `decode` gives it.
+use Rattle.std.proofs.Common.{◌≡◌, ℕ, List, Option, Result, Ok, Err, refl, sym, ap, subst}
 use Rattle.shelf_io.specs.Shelf.{Files}
 use Rattle.code_spec.specs.declared.fault.EndFault.{EndFault}
-use Rattle.code_spec.specs.declared.fault.EndFault.TheVariants as ends
 use Rattle.code_spec.specs.Code.{CodeData}
 use Rattle.code_spec.specs.Checked.{IsCheckedCode}
-use Rattle.code_spec.specs.PlainReading.{IsPlainFront, ReadsText, bad_symbol, reads}
+use Rattle.code_spec.specs.PlainReading.{IsPlainFront, ReadsText, reads}
 use Rattle.code_spec.proofs.ReadingLaws.{reading_one}
 use Rattle.command_steps.specs.declared.status.Status.{Status}
-use Rattle.command_steps.specs.declared.status.Status.TheVariants.{ChannelRefused}
-use Rattle.command_steps.specs.Step.{IsSingle, goes_on, understood}
-use Rattle.command_steps.specs.Promise.{Decides}
-use Rattle.command_steps.proofs.StepLaws.{reads_is_single, reads_value, reads_fault, channel_refused_is_refusal}
-use Rattle.block_codec.specs.TextDecoding.{TextHasCome, TakesText, took, bad_here, bad_before, EndsText, ended, refused_at_end}
-use Rattle.block_codec.specs.declared.text_decoder.TextDecoder.{TextDecoder}
-use Rattle.block_codec.specs.declared.fault.TextFault.TheVariants as texts
+use Rattle.command_steps.specs.declared.status.Status.TheVariants.{ChannelRefused, NoMemory}
+use Rattle.command_steps.specs.Step.{Step, Gives, InputAt, IsSingle, goes_on, understood}
+use Rattle.command_steps.specs.Promise.{Seen, Follows, gave, memory, Decides}
+use Rattle.command_steps.specs.Answer.{Answer, writes}
+use Rattle.command_steps.proofs.StepLaws.{reads_is_single, reads_value, reads_fault, channel_refused_is_refusal, follow_on, follow_stop, alone_last}
+use Rattle.block_codec.specs.TextDecoding.{EndsText, ended, refused_at_end}
 use Rattle.workbench.specs.CheckedCodes.{CheckedAt}
-use Rattle.workbench.specs.Decode.{channel_fault, FileOf}
+use Rattle.workbench.specs.Limits.{text_limit}
+use Rattle.workbench.specs.Decode.{channel_fault, FileOf, bytes_line, read_row, decode_row}
+use Rattle.workbench.specs.TextFile.{FileAt, ReadsPiece}
+use Rattle.workbench.proofs.ApartLaws.{follow_apart}
 
 abbrev value_of : List ℕ → Result (List ℕ) EndFault → List ℕ
 value_of other (Ok file) = file
@@ -63,16 +64,54 @@ pub end_is_refused : (c : CodeData) (text : List ℕ) (fault : EndFault) (s : St
     → Decides view (FileOf c text) (Err s)
 end_is_refused c text fault s view told (refused_at_end f is) = text_is_refused c text fault s view told is
 
--- ---- the whole text as one piece
+-- ---- the file of a text file
 
--- a bad byte of the first piece is one of the text
-pub fed_bad : (c : CodeData) (old new : TextDecoder) (text : List ℕ) (at : ℕ) → TakesText c old new [] text (Err (texts.BadSymbol at)) → ReadsText c text (Err (ends.BadSymbol at))
-fed_bad c old new text at (bad_here n clean come bad) = bad_symbol at bad
-fed_bad c old new text at (bad_before n bad same) = absurd (omega (arith, bad.inside))
+module _ {X : Type 0} (view : X → List ℕ) (c : CodeData) (name : List ℕ) where
+  -- the whole text was read, and gives what its end gives
+  pub read_to_end : (text : List ℕ) (old new : Seen) (result : Result X Status) → new ≡ old → InputAt name 2 text_limit new.files (Ok text)
+      → Decides view (FileOf c text) result → Follows view (FileAt c name) old new result
+  read_to_end text old new result same at decides =
+      subst (λ (seen : Seen). Follows view (FileAt c name) seen new result) same
+      (follow_on (λ (bytes : List ℕ). bytes) view (InputAt name 2 text_limit) (FileOf c) new new new text result (gave text at refl)
+      (alone_last view (FileOf c text) new result decides))
 
-pub fed_well : (c : CodeData) (old new : TextDecoder) (text : List ℕ) → TakesText c old new [] text (Ok tt) → TextHasCome c new text
-fed_well c old new text (took come clean) = come
+  -- a refusal or a fault of a read ends the reading
+  pub read_stops : (text room : List ℕ) (old middle new : Seen) (result : Result X Status) (s : Status) → result ≡ Err s → middle ≡ old
+      → ReadsPiece name text room middle new (Err s) → Follows view (FileAt c name) old new result
+  read_stops text room old middle new result s is same stop =
+      subst (λ (r : Result X Status). Follows view (FileAt c name) old new r) (sym is)
+      (subst (λ (seen : Seen). Follows view (FileAt c name) seen new (Err s)) same
+      (follow_stop (λ (bytes : List ℕ). bytes) view (InputAt name 2 text_limit) (FileOf c) middle new s stop))
 
--- the bytes behind none
-pub first_bytes : (c : CodeData) (text old new : List ℕ) → old ≡ [] → IsPlainFront c text (drop (length old) new) → IsPlainFront c text new
-first_bytes c text old new none front = subst (λ (list : List ℕ). IsPlainFront c text (drop (length list) new)) none front
+  -- want of memory ends the reading
+  pub read_starves : (old new : Seen) (result : Result X Status) → result ≡ Err NoMemory → new ≡ old → Follows view (FileAt c name) old new result
+  read_starves old new result is same = subst (λ (r : Result X Status). Follows view (FileAt c name) old new r) (sym is) (memory same)
+
+-- ---- the row of `decode`
+
+module _ {Y : Type 0} (other : Y → Answer) where
+  -- what is done with a checked code
+  pub behind_code : (code_name text_name : List ℕ) (old middle new : Seen) (c : CodeData) (result : Result Y Status)
+      → Follows (λ (code : CodeData). code) (CheckedAt code_name) old middle (Ok c) → Follows other (read_row c text_name) middle new result
+      → Follows other (decode_row code_name text_name) old new result
+  unfolding decode_row
+  behind_code code_name text_name old middle new c result first rest =
+      follow_on (λ (code : CodeData). code) other (CheckedAt code_name) (λ code. read_row code text_name) old middle new c result first rest
+
+  module _ {X : Type 0} (view : X → List ℕ) (c : CodeData) (name : List ℕ) where
+    abbrev answer_to : List ℕ → Step Answer
+    answer_to file = Gives (writes file (bytes_line file))
+
+    -- a text that gives no file
+    pub no_file : (old new : Seen) (result : Result Y Status) (s : Status) → result ≡ Err s → Follows view (FileAt c name) old new (Err s)
+        → Follows other (read_row c name) old new result
+    no_file old new result s is stop =
+        subst (λ (r : Result Y Status). Follows other (read_row c name) old new r) (sym is)
+        (follow_apart (InputAt name 2 text_limit) (FileOf c) answer_to other old new (Err s) (follow_stop view other (FileAt c name) answer_to old new s stop))
+
+    -- what is done with the file that a text gives
+    pub with_file : (old new : Seen) (x : X) (result : Result Y Status) → Follows view (FileAt c name) old new (Ok x)
+        → Follows other (Gives (writes (view x) (bytes_line (view x)))) new new result → Follows other (read_row c name) old new result
+    with_file old new x result first rest =
+        follow_apart (InputAt name 2 text_limit) (FileOf c) answer_to other old new result
+        (follow_on view other (FileAt c name) answer_to old new new x result first rest)

@@ -6,6 +6,7 @@ pub mod SplitLines
 pub mod Explain
 pub mod Check
 pub mod Decode
+pub mod TextFile
 pub mod Encode
 pub mod TextPlan
 pub mod Rows

@@ -12,6 +12,7 @@ mod explain;
 mod split_text;
 #[cfg(test)]
 mod tests;
+mod text_file;
 mod top;
 
 pub use arguments::{end_with, run_arguments};
