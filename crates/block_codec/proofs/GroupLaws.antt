@@ -37,7 +37,7 @@ use Rattle.block_codec.proofs.AnswerLaws.{power_of_power, symbols_push, length-b
 -- ---- numbers and their digits
 
 -- the first digits and the others
-symbols_of-append : (a m n value : ℕ) → symbols_of a (m + n) value ≡ symbols_of a m (value / a ^ n) ++ symbols_of a n value
+pub symbols_of-append : (a m n value : ℕ) → symbols_of a (m + n) value ≡ symbols_of a m (value / a ^ n) ++ symbols_of a n value
 symbols_of-append a zero n value =
     let none : zero + n ≡ n = omega arith in
     ap (λ k. symbols_of a k value) none
@@ -73,7 +73,7 @@ digits_of_digits b (suc n) value =
 
 -- ---- numbers and their blocks
 
-blocks_in-append : (q m n number : ℕ) → blocks_in q (m + n) number ≡ blocks_in q m (number / 2 ^ (q * n)) ++ blocks_in q n number
+pub blocks_in-append : (q m n number : ℕ) → blocks_in q (m + n) number ≡ blocks_in q m (number / 2 ^ (q * n)) ++ blocks_in q n number
 blocks_in-append q m n number =
     ap (λ (list : List ℕ). map block_of list) (symbols_of-append (2 ^ q) m n number)
     ∙ map-append block_of (symbols_of (2 ^ q) m (number / (2 ^ q) ^ n)) (symbols_of (2 ^ q) n number)
@@ -90,51 +90,51 @@ blocks_in-joined q m n high low small =
     ∙ ap (λ (list : List ℕ). map block_of list) (symbols_of-joined (2 ^ q) m n high low (power_positive 2 q (omega arith)) (subst (λ w. low < w) (sym weight) small))
     ∙ map-append block_of (symbols_of (2 ^ q) m high) (symbols_of (2 ^ q) n low)
 
-drop_front : (k : ℕ) (xs ys : List Block) → length xs ≡ k → drop k (xs ++ ys) ≡ ys
+pub drop_front : (k : ℕ) (xs ys : List Block) → length xs ≡ k → drop k (xs ++ ys) ≡ ys
 drop_front k xs ys len = subst (λ n. drop n (xs ++ ys) ≡ ys) len (drop-append_seam xs ys)
 
 take_front : (k : ℕ) (xs ys : List Block) → length xs ≡ k → take k (xs ++ ys) ≡ xs
 take_front k xs ys len = subst (λ n. take n (xs ++ ys) ≡ xs) len (take-append_seam xs ys)
 
--- the eight windows of a number
-pub window_slice : (c : CodeData) (at behind here : ℕ) → at + behind ≡ 7
-    → window_at c (blocks_in c.q (window_length c + 7) here) at ≡ window_of c (here / 2 ^ (c.q * behind) % 2 ^ (c.q * window_length c))
-window_slice c at behind here sum =
+-- the windows of a number, the last of which is at place `last`
+pub window_slice : (c : CodeData) (last at behind here : ℕ) → at + behind ≡ last
+    → window_at c (blocks_in c.q (window_length c + last) here) at ≡ window_of c (here / 2 ^ (c.q * behind) % 2 ^ (c.q * window_length c))
+window_slice c last at behind here sum =
     let n = window_length c in
     let q = c.q in
-    let count : n + 7 ≡ at + (n + behind) = omega (arith, sum) in
+    let count : n + last ≡ at + (n + behind) = omega (arith, sum) in
     let front = blocks_in q at (here / 2 ^ (q * (n + behind))) in
     let window = blocks_in q n (here / 2 ^ (q * behind)) in
     let back = blocks_in q behind here in
-    let cut : blocks_in q (n + 7) here ≡ front ++ (window ++ back) =
+    let cut : blocks_in q (n + last) here ≡ front ++ (window ++ back) =
     ap (λ k. blocks_in q k here) count ∙ blocks_in-append q at (n + behind) here ∙ ap (λ (bs : List Block). front ++ bs) (blocks_in-append q n behind here) in
     ap (λ (bs : List Block). take n (drop at bs)) cut
     ∙ ap (λ (bs : List Block). take n bs) (drop_front at front (window ++ back) (length-blocks_in q at (here / 2 ^ (q * (n + behind)))))
     ∙ take_front n window back (length-blocks_in q n (here / 2 ^ (q * behind)))
     ∙ sym (blocks_in-mod q n (here / 2 ^ (q * behind)))
 
--- ---- the words of eight windows
+-- ---- the words of windows in a row
 
 -- the number of the words of the first k windows
-pub record HasWords (c : CodeData) (here k words : ℕ) : Type 0 where
+pub record HasWords (c : CodeData) (last here k words : ℕ) : Type 0 where
   pub below : words < 2 ^ (c.p * k)
-  pub each : (at : ℕ) → at < k → IsDecoded c (window_at c (blocks_in c.q (window_length c + 7) here) at) (get_or (symbols_of (2 ^ c.p) k words) at 0)
+  pub each : (at : ℕ) → at < k → IsDecoded c (window_at c (blocks_in c.q (window_length c + last) here) at) (get_or (symbols_of (2 ^ c.p) k words) at 0)
 
-pub words_none : (c : CodeData) (here : ℕ) → HasWords c here 0 0
-words_none c here = record { below = power_positive 2 (c.p * 0) (omega arith); each = λ at inside. absurd (omega (arith, inside)) }
+pub words_none : (c : CodeData) (last here : ℕ) → HasWords c last here 0 0
+words_none c last here = record { below = power_positive 2 (c.p * 0) (omega arith); each = λ at inside. absurd (omega (arith, inside)) }
 
-pub words_more : (c : CodeData) (here k behind window words entry more : ℕ) → k + behind ≡ 7 → window ≡ here / 2 ^ (c.q * behind) % 2 ^ (c.q * window_length c) → IsDecoded c (window_of c window) entry
-    → more ≡ words * 2 ^ c.p + entry → more < 2 ^ (c.p * (k + 1)) → HasWords c here k words → HasWords c here (k + 1) more
-words_more c here k behind window words entry more sum is answer more_is small before =
+pub words_more : (c : CodeData) (last here k behind window words entry more : ℕ) → k + behind ≡ last → window ≡ here / 2 ^ (c.q * behind) % 2 ^ (c.q * window_length c) → IsDecoded c (window_of c window) entry
+    → more ≡ words * 2 ^ c.p + entry → more < 2 ^ (c.p * (k + 1)) → HasWords c last here k words → HasWords c last here (k + 1) more
+words_more c last here k behind window words entry more sum is answer more_is small before =
     let a = 2 ^ c.p in
-    let all = blocks_in c.q (window_length c + 7) here in
+    let all = blocks_in c.q (window_length c + last) here in
     let front = symbols_of a k words in
     let len : length front ≡ k = length-symbols_of a k words in
     let fits : words % a ^ k ≡ words = ap (λ w. words % w) (power_of_power c.p k) ∙ mod-eq_of_lt before.below in
     let digits : symbols_of a (k + 1) more ≡ front ++ entry ∷ [] =
     ap (λ n. symbols_of a (k + 1) n) (more_is ∙ ap (λ n. n * a + entry) (sym fits)) ∙ symbols_push a k words entry (decoded_below c (window_of c window) entry answer) in
     let here_is : IsDecoded c (window_at c all k) entry =
-    subst (λ (bs : List Block). IsDecoded c bs entry) (ap (λ n. window_of c n) is ∙ sym (window_slice c k behind here sum)) answer in
+    subst (λ (bs : List Block). IsDecoded c bs entry) (ap (λ n. window_of c n) is ∙ sym (window_slice c last k behind here sum)) answer in
     record {
       below = small;
       each =
@@ -150,11 +150,11 @@ words_more c here k behind window words entry more sum is answer more_is small b
           (cases_lt at k));
     }
 
-pub words_all : (c : CodeData) (here words : ℕ) → HasWords c here 8 words → AreDecoded c (blocks_in c.q (window_length c + 7) here) (symbols_of (2 ^ c.p) 8 words)
-words_all c here words has =
-    let len = length-symbols_of (2 ^ c.p) 8 words in
+pub words_all : (c : CodeData) (last here words : ℕ) → HasWords c last here (last + 1) words → AreDecoded c (blocks_in c.q (window_length c + last) here) (symbols_of (2 ^ c.p) (last + 1) words)
+words_all c last here words has =
+    let len = length-symbols_of (2 ^ c.p) (last + 1) words in
     record {
-      count = omega (arith, len, length-blocks_in c.q (window_length c + 7) here);
+      count = omega (arith, len, length-blocks_in c.q (window_length c + last) here);
       each = λ at inside. has.each at (omega (arith, inside, len));
     }
 

@@ -4,6 +4,7 @@ pub mod CountLaws
 pub mod DigitLaws
 pub mod EntryLaws
 pub mod FileLaws
+pub mod FourLaws
 pub mod GroupLaws
 pub mod ItemLaws
 pub mod NumberLaws

@@ -1,6 +1,7 @@
 pub mod Answers
 pub mod Between
 pub mod Digits
+pub mod Fours
 pub mod ItemTables
 pub mod Packing
 pub mod Parts

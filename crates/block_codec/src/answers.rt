@@ -112,23 +112,24 @@ pub(crate) fn answer_table(alloc: Global, code: &Code) -> Result<Vec<u8>, NoMemo
     Ok(table)
 }
 
-/// The answers to the eight windows of a number, as a number: the first window ends with its eighth last block.
+/// The answers to the windows of a number, from the first to that at place `last`, as a number.
 ///
 /// The code's p and q are passed as numbers, so that a caller that knows them has its shifts fixed.
 #[inline(always)]
-pub(crate) fn eight_words(code: &Code, p: u32, q: u32, table: &[u8], here: u64) -> u64
+pub(crate) fn several_words(code: &Code, p: u32, q: u32, last: u32, table: &[u8], here: u64) -> u64
     requires p { p ≡ code.now.p }
     requires few { p ≤ 8 }
     requires q { q ≡ code.now.q }
+    requires eight { last ≤ 7 }
     requires table { IsAnswerTable code.now table.now }
-    requires fits { code.now.q * (window_length code.now + 7) < 64 }
-    ensures words { AreDecoded code.now (blocks_in code.now.q (window_length code.now + 7) here) (symbols_of (2 ^ code.now.p) 8 result) }
-    ensures below { result < 2 ^ (code.now.p * 8) }
+    requires fits { code.now.q * (window_length code.now + last) < 64 }
+    ensures words { AreDecoded code.now (blocks_in code.now.q (window_length code.now + last) here) (symbols_of (2 ^ code.now.p) (last + 1) result) }
+    ensures below { result < 2 ^ (code.now.p * (last + 1)) }
 {
     let size = q * window_length(code);
     let mut words = 0;
-    for k in 0..8 {
-        let window = last_digits_wide(here >> (q * (7 - k)), size);
+    for k in 0..last + 1 {
+        let window = last_digits_wide(here >> (q * (last - k)), size);
         let word = table[window as usize];
         words = joined_wide(words, p * k, u64::from(word), p);
     }

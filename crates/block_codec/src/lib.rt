@@ -9,6 +9,7 @@ mod counts;
 mod digits;
 mod encoder;
 mod fault;
+mod fours;
 mod item_table;
 mod laws;
 mod part;

@@ -8,17 +8,19 @@ ghost use Rattle.block_codec.specs.Decoding.{IsAnswer};
 ghost use Rattle.block_codec.specs.inside.Answers.{HasShortWindows, blocks_in};
 ghost use Rattle.block_codec.specs.inside.TableDecoding.{IsTableDecoderFor, HasComeTo, TakesEight};
 
-use crate::answers::{answer_table, eight_words, window_length};
+use crate::answers::{answer_table, window_length};
+use crate::fours::{eight_words, short_fours};
 use crate::part::{joined, joined_wide, last_digits, last_digits_wide};
 use code_model::Code;
 use std::alloc::Global;
 use symbol_base::{Block, NoMemory};
 
-/// A sliding-block decoder by a table of the answers to all windows: it holds the number of the last window's
-/// blocks, and how many of them have come.
+/// A sliding-block decoder by a table of the answers to all windows, and a table of those to four windows in a
+/// row where these are short: it holds the number of the last window's blocks, and how many of them have come.
 #[derive(Debug, Drop)]
 pub(crate) struct TableDecoder {
     answers: Vec<u8>,
+    fours: Vec<u8>,
     window: u32,
     count: u32,
 }
@@ -30,8 +32,11 @@ impl TableDecoder {
         ensures code { IfOk result (IsTableDecoderFor code.now) }
         ensures came { IfOk result (λ decoder. HasComeTo code.now decoder []) }
     {
+        let answers = answer_table(alloc, code)?;
+        let fours = short_fours(alloc, code, answers.as_slice())?;
         Ok(TableDecoder {
-            answers: answer_table(alloc, code)?,
+            answers,
+            fours,
             window: 0,
             count: 0,
         })
@@ -98,6 +103,13 @@ impl TableDecoder {
         let here = joined_wide(before, kept, blocks, q * 8);
         self.window = last_digits_wide(here, q * length) as u32;
         self.count = length;
-        eight_words(code, p, q, self.answers.as_slice(), here)
+        eight_words(
+            code,
+            p,
+            q,
+            self.answers.as_slice(),
+            self.fours.as_slice(),
+            here,
+        )
     }
 }

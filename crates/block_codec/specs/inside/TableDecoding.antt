@@ -5,12 +5,14 @@ use Rattle.code_spec.specs.Code.{CodeData}
 use Rattle.code_spec.specs.Decoder.{window_length}
 use Rattle.block_codec.specs.Decoding.{last_blocks}
 use Rattle.block_codec.specs.inside.Answers.{HasShortWindows, IsAnswerTable, window_of, window_count}
+use Rattle.block_codec.specs.inside.Fours.{HasFours}
 use Rattle.block_codec.specs.declared.table_decoder.TableDecoder.{TableDecoder}
 
--- a decoder that was made for a code has its answers, and its window is one of the code's
+-- a decoder that was made for a code has its answers, those to four windows too if it has any, and its window is one of the code's
 pub record IsTableDecoderFor (c : CodeData) (decoder : TableDecoder) : Type 0 where
   pub short : HasShortWindows c
   pub answers : IsAnswerTable c decoder.answers.items
+  pub fours : HasFours c decoder.fours.items
   pub window : decoder.window < window_count c
   pub count : decoder.count ≤ window_length c
 

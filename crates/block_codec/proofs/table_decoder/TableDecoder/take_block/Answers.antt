@@ -22,6 +22,7 @@ returns-clause-code c =
     record {
       short = c.requires.code.short;
       answers = c.requires.code.answers;
+      fours = c.requires.code.fours;
       window = window_below c.args.code.now _ _ c.joined-self.result same c.window_length-length.ensures.count c.joined-self.ensures.below;
       count = omega (arith, c.window_length-length.ensures.count);
     }
