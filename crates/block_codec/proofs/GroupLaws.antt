@@ -24,15 +24,19 @@ use Rattle.code_spec.proofs.OutputLaws.{flat-append}
 use Rattle.code_spec.proofs.ReadBack.{not_blank}
 use Rattle.block_codec.specs.declared.part.Part.{Part}
 use Rattle.block_codec.specs.declared.reader.Reader.{Reader}
+use Rattle.block_codec.specs.declared.table_decoder.TableDecoder.{TableDecoder}
 use Rattle.block_codec.specs.declared.window_decoder.WindowDecoder.{WindowDecoder}
+use Rattle.block_codec.specs.declared.window_decoder.WindowDecoder.TheVariants.{Short}
 use Rattle.block_codec.specs.Decoding.{block_of, last_blocks}
 use Rattle.block_codec.specs.inside.Answers.{blocks_in, window_of}
 use Rattle.block_codec.specs.inside.Digits.{digits_of}
 use Rattle.block_codec.specs.inside.Packing.{IsPacked, HasRows}
 use Rattle.block_codec.specs.inside.Parts.{Holds}
-use Rattle.block_codec.specs.inside.Readers.{HasText, GoesOn}
+use Rattle.block_codec.specs.inside.Readers.{HasText, GoesOn, TakesGroups, later_reader}
+use Rattle.block_codec.specs.inside.TableDecoding.{HasComeTo}
 use Rattle.block_codec.specs.inside.WindowDecoding.{HaveCome}
 use Rattle.block_codec.proofs.AnswerLaws.{power_of_power, symbols_push, length-blocks_in}
+use Rattle.block_codec.proofs.ReaderLaws.{goes_nowhere, goes_further}
 
 -- ---- numbers and their digits
 
@@ -415,6 +419,29 @@ group_goes_on c text bytes group out out' old new value words two some packed no
                 };
           };
     }
+
+-- nothing was taken yet
+pub nothing_taken : (c : CodeData) (decoder : TableDecoder) (piece out : List ℕ) → TakesGroups c decoder decoder piece 0 out out
+nothing_taken c decoder piece out = λ text bytes reader is no_symbols no_bits has.
+    let none : reader.count ≡ reader.count + 0 = omega arith in
+    goes_nowhere c text bytes out (later_reader reader decoder 0)
+    (subst (λ n. HasText c text bytes (record { blocks = Short decoder; symbols = reader.symbols; bits = reader.bits; digits = reader.digits; count = n })) none
+    (same_blocks c text bytes reader (Short decoder) is has))
+
+-- eight blocks more were taken
+pub eight_taken : (c : CodeData) (decoder later next : TableDecoder) (piece old middle new : List ℕ) (at size value words : ℕ) → c.constraint.alphabet ≡ 2 → 0 < c.q → size ≡ c.q * 8
+    → IsPacked size (take size (drop at piece)) value → new ≡ middle ++ symbols_of 256 c.p words
+    → ((came : List Block) → HasComeTo c later came → HasComeTo c next (came ++ blocks_in c.q 8 value))
+    → ((came : List Block) (before : List ℕ) → HasComeTo c later came → AreDecoded c came before → AreDecoded c (came ++ blocks_in c.q 8 value) (before ++ symbols_of (2 ^ c.p) 8 words))
+    → TakesGroups c decoder later piece at old middle → TakesGroups c decoder next piece (at + size) old new
+eight_taken c decoder later next piece old middle new at size value words two some whole packed put comes decodes before = λ text bytes reader is no_symbols no_bits has.
+    let group = take size (drop at piece) in
+    let count : reader.count + (at + size) ≡ reader.count + at + c.q * 8 = omega (arith, whole) in
+    goes_further c text bytes (take at piece) group (take (at + size) piece) old middle new (later_reader reader later at) (later_reader reader next (at + size)) (take-add at size piece)
+    (before text bytes reader is no_symbols no_bits has)
+    (λ front given held.
+    group_goes_on c front given group middle new (later_reader reader later at) (later_reader reader next (at + size)) value words two some (subst (λ n. IsPacked n group value) whole packed)
+    no_symbols no_bits refl refl count comes decodes put held)
 
 -- one byte more of a number's bytes
 pub bytes_put : (old now new : List ℕ) (p j behind words byte : ℕ) → j < p → behind ≡ p - 1 - j → now ≡ old ++ take j (symbols_of 256 p words) → byte ≡ words / 2 ^ (8 * behind) % 256

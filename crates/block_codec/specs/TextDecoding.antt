@@ -40,7 +40,8 @@ pub record TextHasCome (c : CodeData) (decoder : TextDecoder) (text : List ℕ) 
 -- What becomes of a piece. A piece with a bad byte has come too, but nothing that comes behind it.
 pub data TakesText (c : CodeData) (old new : TextDecoder) (text piece : List ℕ) : Result (Unit {0}) TextFault → Type 0 where
   took : TextHasCome c new (text ++ piece) → IsChannelText c (text ++ piece) → TakesText c old new text piece (Ok tt)
-  bad_here : (at : ℕ) → IsChannelText c text → TextHasCome c new (text ++ piece) → IsBadAt c (text ++ piece) at → TakesText c old new text piece (Err (BadSymbol at))
+  bad_here : (at : ℕ) → IsChannelText c text → TextHasCome c new (text ++ piece) → IsBadAt c (text ++ piece) at
+      → TakesText c old new text piece (Err (BadSymbol at))
   bad_before : (at : ℕ) → IsBadAt c text at → new ≡ old → TakesText c old new text piece (Err (BadSymbol at))
   wanted_memory : IsChannelText c text → new ≡ old → TakesText c old new text piece (Err NoMemory)
 

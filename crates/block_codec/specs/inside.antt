@@ -8,6 +8,7 @@ pub mod Parts
 pub mod Readers
 pub mod Rooms
 pub mod Sets
+pub mod Sizes
 pub mod TableDecoding
 pub mod Tables
 pub mod WalkDecoding

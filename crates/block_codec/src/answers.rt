@@ -7,9 +7,11 @@ ghost use Rattle.code_spec.specs.Output.{row_at, output};
 ghost use Rattle.symbol_base.specs.Block.{symbols_of};
 ghost use Rattle.code_spec.specs.Decoder.{window_length, AreDecoded};
 ghost use Rattle.block_codec.specs.Decoding.{block_of};
+ghost use Rattle.block_codec.specs.inside.Sizes.{AreSizesOf};
 ghost use Rattle.block_codec.specs.inside.Answers.{HasShortWindows, IsAnswerTable, blocks_in, window_count, list_count, window_of, words_in};
 
 use crate::part::{joined, joined_wide, last_digits, last_digits_wide};
+use crate::sizes::Sizes;
 use code_model::Code;
 use std::alloc::Global;
 use symbol_base::{CodeName, Name, NoMemory};
@@ -42,7 +44,8 @@ fn digit_of(number: u32, p: u32, behind: u32) -> u32
     last_digits(number >> (p * behind), p)
 }
 
-/// The value of the block that the code writes in a state for a data word, and the state that it goes to.
+/// The value of the block that the code writes in a state for a data word, and the state that it
+/// goes to.
 #[inline]
 fn value_step(code: &Code, state: CodeName, word: u32) -> (u32, CodeName)
     requires state { IsState code.now state }
@@ -96,8 +99,8 @@ fn list_count(code: &Code) -> u32
 
 /// The decoder's answers to all windows.
 ///
-/// Each walk puts the word that it takes at the place past to the window that it writes; a window that no
-/// walk writes keeps 0.
+/// Each walk puts the word that it takes at the place past to the window that it writes; a window
+/// that no walk writes keeps 0.
 pub(crate) fn answer_table(alloc: Global, code: &Code) -> Result<Vec<u8>, NoMemory>
     requires { HasShortWindows code.now }
     ensures { IfOk result (λ table. IsAnswerTable code.now table.items) }
@@ -113,25 +116,23 @@ pub(crate) fn answer_table(alloc: Global, code: &Code) -> Result<Vec<u8>, NoMemo
 }
 
 /// The answers to the windows of a number, from the first to that at place `last`, as a number.
-///
-/// The code's p and q are passed as numbers, so that a caller that knows them has its shifts fixed.
 #[inline(always)]
-pub(crate) fn several_words(code: &Code, p: u32, q: u32, last: u32, table: &[u8], here: u64) -> u64
-    requires p { p ≡ code.now.p }
-    requires few { p ≤ 8 }
-    requires q { q ≡ code.now.q }
+pub(crate) fn several_words(code: &Code, sizes: Sizes, last: u32, table: &[u8], here: u64) -> u64
+    requires sizes { AreSizesOf code.now sizes }
+    requires few { sizes.p ≤ 8 }
     requires eight { last ≤ 7 }
     requires table { IsAnswerTable code.now table.now }
     requires fits { code.now.q * (window_length code.now + last) < 64 }
-    ensures words { AreDecoded code.now (blocks_in code.now.q (window_length code.now + last) here) (symbols_of (2 ^ code.now.p) (last + 1) result) }
+    ensures words { AreDecoded code.now (blocks_in code.now.q (window_length code.now + last) here)
+        (symbols_of (2 ^ code.now.p) (last + 1) result) }
     ensures below { result < 2 ^ (code.now.p * (last + 1)) }
 {
-    let size = q * window_length(code);
+    let size = sizes.q * sizes.length;
     let mut words = 0;
     for k in 0..last + 1 {
-        let window = last_digits_wide(here >> (q * (last - k)), size);
+        let window = last_digits_wide(here >> (sizes.q * (last - k)), size);
         let word = table[window as usize];
-        words = joined_wide(words, p * k, u64::from(word), p);
+        words = joined_wide(words, sizes.p * k, u64::from(word), sizes.p);
     }
     words
 }

@@ -55,13 +55,15 @@ impl BlockDecoder {
         Ok(BlockDecoder { window, count: 0 })
     }
 
-    /// Takes a block, and answers the data word of the window that it ends; none while fewer blocks than
-    /// a window has have come. The answer is that of the window alone, and takes no memory.
+    /// Takes a block, and answers the data word of the window that it ends; none while fewer blocks
+    /// than a window has have come. The answer is that of the window alone, and takes no memory.
     pub fn step(&mut self, code: &CheckedCode, block: Block) -> Option<u32>
         requires code { IsDecoderFor code.now self.old }
         ensures code { IsDecoderFor code.now self.new }
-        ensures came { (came : List Block) → HasCome code.now self.old came → HasCome code.now self.new (came ++ block ∷ []) }
-        ensures answer { (came : List Block) → HasCome code.now self.old came → IsAnswer code.now (came ++ block ∷ []) result }
+        ensures came { (came : List Block) → HasCome code.now self.old came
+            → HasCome code.now self.new (came ++ block ∷ []) }
+        ensures answer { (came : List Block) → HasCome code.now self.old came
+            → IsAnswer code.now (came ++ block ∷ []) result }
         ensures small { IfSome result (IsDataWord code.now) }
     {
         self.take_block(code.code(), block)
@@ -72,8 +74,10 @@ impl BlockDecoder {
     pub(crate) fn take_block(&mut self, code: &Code, block: Block) -> Option<u32>
         requires code { IsDecoderFor code.now self.old }
         ensures code { IsDecoderFor code.now self.new }
-        ensures came { (came : List Block) → HasCome code.now self.old came → HasCome code.now self.new (came ++ block ∷ []) }
-        ensures answer { (came : List Block) → HasCome code.now self.old came → IsAnswer code.now (came ++ block ∷ []) result }
+        ensures came { (came : List Block) → HasCome code.now self.old came
+            → HasCome code.now self.new (came ++ block ∷ []) }
+        ensures answer { (came : List Block) → HasCome code.now self.old came
+            → IsAnswer code.now (came ++ block ∷ []) result }
         ensures small { IfSome result (IsDataWord code.now) }
     {
         if !self.put(code, block) {
@@ -88,7 +92,8 @@ impl BlockDecoder {
         requires code { IsDecoderFor code.now self.old }
         ensures code { IsDecoderFor code.now self.new }
         ensures window { self.new.window.items ≡ drop 1 self.old.window.items ++ block ∷ [] }
-        ensures came { (came : List Block) → HasCome code.now self.old came → HasCome code.now self.new (came ++ block ∷ []) }
+        ensures came { (came : List Block) → HasCome code.now self.old came
+            → HasCome code.now self.new (came ++ block ∷ []) }
         ensures full { IsTrue result ↔ (window_length code.now ≤ self.new.count) }
     {
         let count = code.past + 1 + code.ahead;

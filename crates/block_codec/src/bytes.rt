@@ -56,8 +56,10 @@ pub(crate) fn put_bytes(
 ) -> CodeName
     requires table { IsByteTable code.now table.now }
     requires state { IsState code.now state }
-    requires room { code.now.q * word_count code.now.p (8 * length bytes.now) + 32 ≤ length room.old }
-    ensures { PutsDigits code.now state (file_words code.now.p bytes.now) 0 room.old room.new result }
+    requires room { code.now.q * word_count code.now.p (8 * length bytes.now) + 32
+        ≤ length room.old }
+    ensures { PutsDigits code.now state (file_words code.now.p bytes.now) 0 room.old room.new
+        result }
 {
     let lanes = table.lanes.as_slice();
     let next = table.next.as_slice();

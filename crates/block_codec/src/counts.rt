@@ -28,7 +28,8 @@ pub(crate) fn digit_count(code: &Code, bytes: usize) -> usize
 pub fn block_count(code: &Code, bytes: u64) -> u64
     requires { bytes ≤ 2 ^ 26 }
     ensures count { result ≡ blocks_of code.now bytes }
-    ensures words { (file : List ℕ) → length file ≡ bytes → result ≡ length (data_words code.now file) }
+    ensures words { (file : List ℕ) → length file ≡ bytes
+        → result ≡ length (data_words code.now file) }
     ensures few { result < 2 ^ 30 }
 {
     u64::from(code.past) + count_words(code.p, bytes) + u64::from(code.ahead)

@@ -1,6 +1,6 @@
 //! The digits of a text, eight at a time.
 
-ghost use Rattle.std.specs.Prelude.{◌≡◌, ◌*◌, ◌<◌, ◌≤◌, length, IfOk, IfSome};
+ghost use Rattle.std.specs.Prelude.{◌≡◌, ◌+◌, ◌*◌, ◌<◌, ◌≤◌, length, take, drop, IfOk, IfSome};
 ghost use Rattle.std.specs.Int.{w64, from_le_bytes};
 ghost use Rattle.symbol_base.specs.Block.{symbols_of};
 ghost use Rattle.block_codec.specs.inside.Digits.{digits_of};
@@ -47,8 +47,8 @@ pub(crate) fn digit_table(alloc: Global) -> Result<Vec<u64>, NoMemory>
 
 /// The byte whose eight digits this number has, where it has digits, and any byte where it doesn't.
 ///
-/// The product brings the last bit of each into the top byte. Nothing rests on it, since the digits are then
-/// compared with those of the byte.
+/// The product brings the last bit of each into the top byte. Nothing rests on it, since the digits
+/// are then compared with those of the byte.
 #[inline]
 fn likely_byte(number: u64) -> u8 {
     ((number & 0x0101_0101_0101_0101).wrapping_mul(0x8040_2010_0804_0201) >> 56) as u8
@@ -86,4 +86,21 @@ pub(crate) fn packed(table: &[u64], digits: &[u8], eights: u32) -> Option<u64>
         value = joined_wide(value, 8 * i, u64::from(byte), 8);
     }
     Some(value)
+}
+
+/// The number whose binary digits stand at a place of a piece, so many times eight, where so many
+/// stand there and all of them are digits.
+#[inline(always)]
+pub(crate) fn packed_at(table: &[u64], piece: &[u8], at: usize, eights: u32) -> Option<u64>
+    requires table { HasRows 256 table.now }
+    requires inside { at ≤ length piece.now }
+    requires short { eights ≤ 7 }
+    ensures inside { IfSome result (λ _. at + 8 * eights ≤ length piece.now) }
+    ensures digits { IfSome result (IsPacked (8 * eights) (take (8 * eights) (drop at piece.now))) }
+{
+    let size = 8 * eights as usize;
+    if piece.len() - at < size {
+        return None;
+    }
+    packed(table, &piece[at..at + size], eights)
 }

@@ -8,8 +8,8 @@ use symbol_base::{Block, CodeName, Name};
 
 /// An encoder: the state of a code, which goes on from word to word.
 ///
-/// Contracts see it as that state. It belongs to every code that has the state: to the one that it was
-/// made for, and to that one after each step.
+/// Contracts see it as that state. It belongs to every code that has the state: to the one that it
+/// was made for, and to that one after each step.
 #[derive(Debug, Drop)]
 pub struct Encoder {
     state: CodeName,
@@ -35,7 +35,8 @@ impl Encoder {
         }
     }
 
-    /// The block that the code writes for the data word, after which the encoder is at the next state.
+    /// The block that the code writes for the data word, after which the encoder is at the next
+    /// state.
     #[inline]
     pub fn step(&mut self, code: &CheckedCode, word: u32) -> Block
         requires code { IsState code.now self.old }

@@ -5,10 +5,12 @@ ghost use Rattle.std.specs.Bool.{OnTrue};
 ghost use Rattle.symbol_base.specs.Block.{symbols_of};
 ghost use Rattle.code_spec.specs.Decoder.{window_length, AreDecoded};
 ghost use Rattle.block_codec.specs.inside.Answers.{IsAnswerTable, blocks_in};
+ghost use Rattle.block_codec.specs.inside.Sizes.{AreSizesOf};
 ghost use Rattle.block_codec.specs.inside.Fours.{HasShortFours, IsFour, IsFourTable, HasFours};
 
 use crate::answers::{several_words, window_length};
 use crate::part::{joined_wide, last_digits_wide};
+use crate::sizes::Sizes;
 use code_model::Code;
 use std::alloc::Global;
 use symbol_base::NoMemory;
@@ -26,7 +28,7 @@ fn four_entry(code: &Code, answers: &[u8], here: u32) -> u8
     requires answers { IsAnswerTable code.now answers.now }
     ensures { IsFour code.now here result }
 {
-    several_words(code, code.p, code.q, 3, answers, u64::from(here)) as u8
+    several_words(code, Sizes::of(code), 3, answers, u64::from(here)) as u8
 }
 
 /// The answers to four windows in a row, for all such windows.
@@ -56,44 +58,38 @@ pub(crate) fn short_fours(alloc: Global, code: &Code, answers: &[u8]) -> Result<
 
 /// The answers to the eight windows of a number by two look-ups.
 #[inline(always)]
-fn two_fours(code: &Code, p: u32, q: u32, fours: &[u8], here: u64) -> u64
-    requires p { p ≡ code.now.p }
-    requires few { p ≤ 8 }
-    requires q { q ≡ code.now.q }
+fn two_fours(code: &Code, sizes: Sizes, fours: &[u8], here: u64) -> u64
+    requires sizes { AreSizesOf code.now sizes }
+    requires few { sizes.p ≤ 8 }
     requires fours { IsFourTable code.now fours.now }
     requires fits { code.now.q * (window_length code.now + 7) < 64 }
-    ensures words { AreDecoded code.now (blocks_in code.now.q (window_length code.now + 7) here) (symbols_of (2 ^ code.now.p) 8 result) }
+    ensures words { AreDecoded code.now (blocks_in code.now.q (window_length code.now + 7) here)
+        (symbols_of (2 ^ code.now.p) 8 result) }
     ensures below { result < 2 ^ (code.now.p * 8) }
 {
-    let size = q * (window_length(code) + 3);
-    let early = last_digits_wide(here >> (q * 4), size);
+    let size = sizes.q * (sizes.length + 3);
+    let early = last_digits_wide(here >> (sizes.q * 4), size);
     let late = last_digits_wide(here, size);
     let high = fours[early as usize];
     let low = fours[late as usize];
-    joined_wide(u64::from(high), p * 4, u64::from(low), p * 4)
+    joined_wide(u64::from(high), sizes.p * 4, u64::from(low), sizes.p * 4)
 }
 
-/// The answers to the eight windows of a number, as a number: the first window ends with its eighth last block.
+/// The answers to the eight windows of a number, as a number: the first window ends with its eighth
+/// last block.
 #[inline(always)]
-pub(crate) fn eight_words(
-    code: &Code,
-    p: u32,
-    q: u32,
-    answers: &[u8],
-    fours: &[u8],
-    here: u64,
-) -> u64
-    requires p { p ≡ code.now.p }
-    requires few { p ≤ 8 }
-    requires q { q ≡ code.now.q }
+pub(crate) fn eight_words(code: &Code, sizes: Sizes, answers: &[u8], fours: &[u8], here: u64) -> u64
+    requires sizes { AreSizesOf code.now sizes }
+    requires few { sizes.p ≤ 8 }
     requires answers { IsAnswerTable code.now answers.now }
     requires fours { HasFours code.now fours.now }
     requires fits { code.now.q * (window_length code.now + 7) < 64 }
-    ensures words { AreDecoded code.now (blocks_in code.now.q (window_length code.now + 7) here) (symbols_of (2 ^ code.now.p) 8 result) }
+    ensures words { AreDecoded code.now (blocks_in code.now.q (window_length code.now + 7) here)
+        (symbols_of (2 ^ code.now.p) 8 result) }
     ensures below { result < 2 ^ (code.now.p * 8) }
 {
     if fours.is_empty() {
-        return several_words(code, p, q, 7, answers, here);
+        return several_words(code, sizes, 7, answers, here);
     }
-    two_fours(code, p, q, fours, here)
+    two_fours(code, sizes, fours, here)
 }

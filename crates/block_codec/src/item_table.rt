@@ -42,8 +42,10 @@ impl ItemTable {
         requires table { IsItemTable code.now self.now }
         requires state { IsState code.now state }
         requires small { length bytes.now ≤ 2 ^ 26 }
-        requires room { code.now.q * word_count code.now.p (8 * length bytes.now) + 32 ≤ length room.old }
-        ensures { PutsDigits code.now state (file_words code.now.p bytes.now) 0 room.old room.new result }
+        requires room { code.now.q * word_count code.now.p (8 * length bytes.now) + 32
+            ≤ length room.old }
+        ensures { PutsDigits code.now state (file_words code.now.p bytes.now) 0 room.old room.new
+            result }
     {
         match self {
             ItemTable::Bytes(table) => put_bytes(code, table, state, bytes, room),

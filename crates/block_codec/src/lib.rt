@@ -15,6 +15,7 @@ mod laws;
 mod part;
 mod pieces;
 mod reader;
+mod sizes;
 mod state_sets;
 mod steps;
 mod survivors;

@@ -81,7 +81,8 @@ impl Part {
         requires fits { size + width < 32 }
         ensures part { IsPart size self.new }
         ensures whole { IfSome result (λ whole. whole < 2 ^ size) }
-        ensures digits { (held : List ℕ) → Holds self.old held → Regroups size (held ++ symbols_of 2 width digits) self.new result }
+        ensures digits { (held : List ℕ) → Holds self.old held
+            → Regroups size (held ++ symbols_of 2 width digits) self.new result }
     {
         let value = joined(self.value, self.count, digits, width);
         let count = self.count + width;

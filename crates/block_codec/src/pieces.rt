@@ -35,8 +35,10 @@ pub(crate) fn put_lead_in<F: Shelf>(
     room: &mut [u8],
 ) -> Result<CodeName, Failed>
     requires { HasRoom code.now (length room.old) }
-    ensures appends { IsPutAll name.now (digits_from code.now 0 (replicate code.now.past 0)) (F.files shelf.old) (F.files shelf.new) result }
-    ensures next { IfOk result (λ next. next ≡ state_after code.now.rows 0 (replicate code.now.past 0)) }
+    ensures appends { IsPutAll name.now (digits_from code.now 0 (replicate code.now.past 0))
+        (F.files shelf.old) (F.files shelf.new) result }
+    ensures next { IfOk result (λ next.
+        next ≡ state_after code.now.rows 0 (replicate code.now.past 0)) }
     ensures inside { IfOk result (IsState code.now) }
     ensures count { Counts (F.faults shelf.old) (F.faults shelf.new) result }
 {
@@ -55,7 +57,9 @@ pub(crate) fn put_end<F: Shelf>(
 ) -> Result<(), Failed>
     requires state { IsState code.now state }
     requires room { HasRoom code.now (length room.old) }
-    ensures appends { IsPutAll name.now (digits_from code.now state (replicate code.now.ahead 0) ++ 10 ∷ []) (F.files shelf.old) (F.files shelf.new) result }
+    ensures appends { IsPutAll name.now
+        (digits_from code.now state (replicate code.now.ahead 0) ++ 10 ∷ []) (F.files shelf.old)
+        (F.files shelf.new) result }
     ensures count { Counts (F.faults shelf.old) (F.faults shelf.new) result }
 {
     let _next = put_zeros(code, state, code.ahead, room);
@@ -77,9 +81,13 @@ fn put_piece<F: Shelf>(
     requires table { IsItemTable code.now table.now }
     requires state { IsState code.now state }
     requires small { length piece.now ≤ 2 ^ 26 }
-    requires room { code.now.q * word_count code.now.p (8 * length piece.now) + 32 ≤ length room.old }
-    ensures appends { IsPutAll name.now (digits_from code.now state (file_words code.now.p piece.now)) (F.files shelf.old) (F.files shelf.new) result }
-    ensures next { IfOk result (λ next. next ≡ state_after code.now.rows state (file_words code.now.p piece.now)) }
+    requires room { code.now.q * word_count code.now.p (8 * length piece.now) + 32
+        ≤ length room.old }
+    ensures appends { IsPutAll name.now
+        (digits_from code.now state (file_words code.now.p piece.now)) (F.files shelf.old)
+        (F.files shelf.new) result }
+    ensures next { IfOk result (λ next.
+        next ≡ state_after code.now.rows state (file_words code.now.p piece.now)) }
     ensures inside { IfOk result (IsState code.now) }
     ensures count { Counts (F.faults shelf.old) (F.faults shelf.new) result }
 {
@@ -89,7 +97,8 @@ fn put_piece<F: Shelf>(
     Ok(next)
 }
 
-/// Appends the digits of a file's words to a text, piece by piece, and answers the state that they lead to.
+/// Appends the digits of a file's words to a text, piece by piece, and answers the state that they
+/// lead to.
 pub(crate) fn put_pieces<F: Shelf>(
     code: &Code,
     table: &ItemTable,
@@ -103,8 +112,11 @@ pub(crate) fn put_pieces<F: Shelf>(
     requires state { IsState code.now state }
     requires small { length file.now ≤ 2 ^ 26 }
     requires room { HasRoom code.now (length room.old) }
-    ensures appends { IsPutAll name.now (digits_from code.now state (file_words code.now.p file.now)) (F.files shelf.old) (F.files shelf.new) result }
-    ensures next { IfOk result (λ next. next ≡ state_after code.now.rows state (file_words code.now.p file.now)) }
+    ensures appends { IsPutAll name.now
+        (digits_from code.now state (file_words code.now.p file.now)) (F.files shelf.old)
+        (F.files shelf.new) result }
+    ensures next { IfOk result (λ next.
+        next ≡ state_after code.now.rows state (file_words code.now.p file.now)) }
     ensures inside { IfOk result (IsState code.now) }
     ensures count { Counts (F.faults shelf.old) (F.faults shelf.new) result }
 {

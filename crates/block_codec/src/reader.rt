@@ -1,17 +1,19 @@
 ghost use Rattle.std.specs.Prelude.{◌≡◌, ℕ, ◌+◌, ◌^◌, ◌<◌, ◌≤◌, false, List, [], ◌∷◌, ◌++◌, length, take, vec_len, vec_capacity, IfOk, IfSome, IsTrue};
-ghost use Rattle.symbol_base.specs.Block.{symbols_of};
 ghost use Rattle.code_spec.specs.Code.{IsCode};
 ghost use Rattle.code_spec.specs.PlainReading.{is_blank};
+ghost use Rattle.block_codec.specs.inside.Sizes.{AreSizesOf};
 ghost use Rattle.block_codec.specs.inside.Readers.{IsReaderFor, HasSymbols, HasText, GoesOn, TakesPiece, IsFrontOf, IsBadByte, listed};
 
-use crate::digits::{digit_table, packed};
+use crate::digits::digit_table;
 use crate::part::Part;
+use crate::sizes::Sizes;
 use crate::window_decoder::WindowDecoder;
 use code_model::Code;
 use std::alloc::Global;
 use symbol_base::{Block, NoMemory};
 
-/// A reader of symbols: of the blocks that they fill, the data words of these, and the bytes that those fill.
+/// A reader of symbols: of the blocks that they fill, the data words of these, and the bytes that
+/// those fill.
 #[derive(Debug, Drop)]
 pub(crate) struct Reader {
     blocks: WindowDecoder,
@@ -115,21 +117,13 @@ impl Reader {
         true
     }
 
-    /// Takes the digits of eight blocks at the front of a piece at once, where that can be done, and answers how many
-    /// bytes it took: none, or all of those. The code's p and q are passed as numbers.
+    /// Takes the digits of eight blocks at a time from the front of a piece, as long as that can be
+    /// done, and answers how many bytes it took.
     #[inline(always)]
-    fn take_eight_blocks(
-        &mut self,
-        code: &Code,
-        p: u32,
-        q: u32,
-        piece: &[u8],
-        out: &mut Vec<u8>,
-    ) -> usize
-        requires p { p ≡ code.now.p }
-        requires q { q ≡ code.now.q }
+    fn take_groups(&mut self, code: &Code, sizes: Sizes, piece: &[u8], out: &mut Vec<u8>) -> usize
         requires table { IsCode code.now }
         requires code { IsReaderFor code.now self.old }
+        requires sizes { AreSizesOf code.now sizes }
         requires room { vec_len out.old + length piece.now ≤ vec_capacity out.old }
         requires few { self.old.count + length piece.now < 2 ^ 63 }
         ensures code { IsReaderFor code.now self.new }
@@ -139,31 +133,26 @@ impl Reader {
         ensures capacity { vec_capacity out.new ≡ vec_capacity out.old }
         ensures front { IsFrontOf out.old.items out.new.items }
         ensures text { (text bytes : List ℕ) → HasText code.now text bytes self.old
-            → GoesOn code.now text bytes (take result piece.now) out.old.items out.new.items self.new }
+            → GoesOn code.now text bytes (take result piece.now) out.old.items out.new.items
+            self.new }
     {
-        let size = 8 * q as usize;
-        if piece.len() < size || q > 7 || !self.symbols.is_empty() || !self.bits.is_empty() {
+        if sizes.q > 7 || !self.symbols.is_empty() || !self.bits.is_empty() {
             return 0;
         }
         let WindowDecoder::Short(decoder) = &mut self.blocks else {
             return 0;
         };
-        if !decoder.takes_eight(code, q) {
+        if !decoder.takes_eight(code, sizes) {
             return 0;
         }
-        let Some(blocks) = packed(self.digits.as_slice(), &piece[..size], q) else {
-            return 0;
-        };
-        let words = decoder.take_eight(code, p, q, blocks);
-        self.count += size as u64;
-        put_number(out, words, p);
-        size
+        let taken = decoder.take_groups(code, sizes, self.digits.as_slice(), piece, out);
+        self.count += taken as u64;
+        taken
     }
 
-    /// Takes the digits of eight blocks at the front of a piece at once, where that can be done, and answers how many
-    /// bytes it took: none, or all of those. The usual rates have their own code, in which shifts are fixed.
+    /// The same; the usual rates have their own code, in which shifts are fixed.
     #[inline]
-    fn take_group(&mut self, code: &Code, piece: &[u8], out: &mut Vec<u8>) -> usize
+    fn take_front(&mut self, code: &Code, piece: &[u8], out: &mut Vec<u8>) -> usize
         requires table { IsCode code.now }
         requires code { IsReaderFor code.now self.old }
         requires room { vec_len out.old + length piece.now ≤ vec_capacity out.old }
@@ -175,15 +164,33 @@ impl Reader {
         ensures capacity { vec_capacity out.new ≡ vec_capacity out.old }
         ensures front { IsFrontOf out.old.items out.new.items }
         ensures text { (text bytes : List ℕ) → HasText code.now text bytes self.old
-            → GoesOn code.now text bytes (take result piece.now) out.old.items out.new.items self.new }
+            → GoesOn code.now text bytes (take result piece.now) out.old.items out.new.items
+            self.new }
     {
-        if code.p == 2 && code.q == 3 {
-            return self.take_eight_blocks(code, 2, 3, piece, out);
+        let sizes = Sizes::of(code);
+        match (sizes.p, sizes.q) {
+            (2, 3) => self.take_groups(
+                code,
+                Sizes {
+                    p: 2,
+                    q: 3,
+                    ..sizes
+                },
+                piece,
+                out,
+            ),
+            (1, 2) => self.take_groups(
+                code,
+                Sizes {
+                    p: 1,
+                    q: 2,
+                    ..sizes
+                },
+                piece,
+                out,
+            ),
+            _ => self.take_groups(code, sizes, piece, out),
         }
-        if code.p == 1 && code.q == 2 {
-            return self.take_eight_blocks(code, 1, 2, piece, out);
-        }
-        self.take_eight_blocks(code, code.p, code.q, piece, out)
     }
 
     /// Takes a piece of a text up to its first byte that is neither a digit nor passed over, and
@@ -207,7 +214,7 @@ impl Reader {
     {
         let mut at = 0;
         while at < piece.len() {
-            let taken = self.take_group(code, &piece[at..], out);
+            let taken = self.take_front(code, &piece[at..], out);
             if taken > 0 {
                 at += taken;
             } else if self.take_byte(code, piece[at], out) {
@@ -217,20 +224,6 @@ impl Reader {
             }
         }
         None
-    }
-}
-
-/// Puts the bytes of a number behind the others, so many, the first most significant.
-#[inline(always)]
-fn put_number(out: &mut Vec<u8>, number: u64, count: u32)
-    requires few { count ≤ 8 }
-    requires room { vec_len out.old + count ≤ vec_capacity out.old }
-    ensures items { out.new.items ≡ out.old.items ++ symbols_of 256 count number }
-    ensures capacity { vec_capacity out.new ≡ vec_capacity out.old }
-    ensures len { vec_len out.new ≡ vec_len out.old + count }
-{
-    for j in 0..count {
-        out.push_reserved((number >> (8 * (count - 1 - j)) & 0xff) as u8);
     }
 }
 

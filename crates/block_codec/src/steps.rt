@@ -15,7 +15,8 @@ use symbol_base::{Block, CodeName, take_word};
 pub(crate) fn put_block(block: Block, q: u32, room: &mut [u8], at: usize)
     requires short { q ≤ 20 }
     requires room { at + q ≤ length room.old }
-    ensures digits { take (at + q) room.new ≡ take at room.old ++ digits_of (symbols_of 2 q block.value) }
+    ensures digits { take (at + q) room.new
+        ≡ take at room.old ++ digits_of (symbols_of 2 q block.value) }
     ensures len { length room.new ≡ length room.old }
 {
     for k in 0..q {
@@ -63,7 +64,8 @@ pub(crate) fn put_file(code: &Code, state: CodeName, file: &[u8], room: &mut [u8
     requires state { IsState code.now state }
     requires small { length file.now ≤ 2 ^ 26 }
     requires room { code.now.q * word_count code.now.p (8 * length file.now) ≤ length room.old }
-    ensures { PutsDigits code.now state (file_words code.now.p file.now) 0 room.old room.new result }
+    ensures { PutsDigits code.now state (file_words code.now.p file.now) 0 room.old room.new
+        result }
 {
     let p = code.p;
     let step = code.q as usize;

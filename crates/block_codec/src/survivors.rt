@@ -12,8 +12,9 @@ pub(crate) struct Step {
     pub(crate) word: u8,
 }
 
-/// The states to which some walk leads that writes all blocks since a start, and for each of the last blocks and
-/// each state that was reached behind it the last step of such a walk (as in the Viterbi algorithm: survivors).
+/// The states to which some walk leads that writes all blocks since a start, and for each of the
+/// last blocks and each state that was reached behind it the last step of such a walk (as in the
+/// Viterbi algorithm: survivors).
 ///
 /// Nothing is promised of what stands here: who takes a step from it tests the step by the code.
 #[derive(Debug, Drop)]
@@ -62,8 +63,8 @@ impl Survivors {
         self.count = STATES as u16;
     }
 
-    /// Goes on by a block, and answers one of the states that are reached; where there is none, starts anew
-    /// with all states.
+    /// Goes on by a block, and answers one of the states that are reached; where there is none,
+    /// starts anew with all states.
     #[inline]
     pub(crate) fn take_block(&mut self, block: Block) -> Option<u16> {
         let next = self.layer.saturating_add(1);

@@ -5,9 +5,10 @@ use symbol_base::NoMemory;
 
 /// What a code does in each state with each item of data, which is a byte or a data word.
 ///
-/// The entries of a state stand in the order of the items, behind those of the state before it. An entry's
-/// digits stand at the front of a lane of fixed length, so that a lane is copied by one move; the next
-/// states stand apart, since each look-up waits for the one before it, and they have to stay close.
+/// The entries of a state stand in the order of the items, behind those of the state before it. An
+/// entry's digits stand at the front of a lane of fixed length, so that a lane is copied by one
+/// move; the next states stand apart, since each look-up waits for the one before it, and they have
+/// to stay close.
 #[derive(Drop)]
 pub(crate) struct Table<const LANE: usize> {
     /// The digits of each entry.
@@ -30,7 +31,8 @@ impl<const LANE: usize> Table<LANE> {
 
     /// One entry more. After an error the table is of no use.
     pub(crate) fn push(&mut self, lane: [u8; LANE], next: u32) -> Result<(), NoMemory>
-        ensures lanes { IfOk result (λ _. self.new.lanes.items ≡ self.old.lanes.items ++ lane.entry ∷ []) }
+        ensures lanes { IfOk result (λ _.
+            self.new.lanes.items ≡ self.old.lanes.items ++ lane.entry ∷ []) }
         ensures next { IfOk result (λ _. self.new.next.items ≡ self.old.next.items ++ next ∷ []) }
     {
         self.lanes.push(lane)?;
@@ -39,7 +41,8 @@ impl<const LANE: usize> Table<LANE> {
     }
 }
 
-/// Puts the lane of an entry into the room, from place `at` on, and answers where the next entries begin.
+/// Puts the lane of an entry into the room, from place `at` on, and answers where the next entries
+/// begin.
 #[inline]
 pub(crate) fn put_item<const LANE: usize>(
     lanes: &[[u8; LANE]],

@@ -55,12 +55,17 @@ impl TextDecoder {
         requires small { bytes_come self.old + length piece.now ≤ 2 ^ 40 }
         ensures code { IsTextDecoderFor code.now self.new }
         ensures made { IsMade self.old → IsMade self.new }
-        ensures come { (text : List ℕ) → TextHasCome code.now self.old text → TakesText code.now self.old self.new text piece.now result }
-        ensures bytes { OnOk result ((text front : List ℕ) → TextHasCome code.now self.old text → IsPlainFront code.now text front
-            → IsPlainFront code.now (text ++ piece.now) (front ++ drop (length out.old.items) out.new.items)) }
+        ensures come { (text : List ℕ) → TextHasCome code.now self.old text
+            → TakesText code.now self.old self.new text piece.now result }
+        ensures bytes { OnOk result
+            ((text front : List ℕ) → TextHasCome code.now self.old text
+            → IsPlainFront code.now text front
+            → IsPlainFront code.now (text ++ piece.now)
+            (front ++ drop (length out.old.items) out.new.items)) }
         ensures before { IsFrontOf out.old.items out.new.items }
         ensures refused { OnErr result (out.new.items ≡ out.old.items) }
-        ensures counted { OnOk result (bytes_come self.new ≡ bytes_come self.old + length piece.now) }
+        ensures counted { OnOk result
+            (bytes_come self.new ≡ bytes_come self.old + length piece.now) }
     {
         if let Some(at) = self.fault {
             return Err(TextFault::BadSymbol(at));
@@ -85,7 +90,8 @@ impl TextDecoder {
     /// How many bytes the file of the text has that has come, or why it is the text of no file.
     pub fn end(&self) -> Result<u64, EndFault>
         requires made { IsMade self.now }
-        ensures end { (c : CodeData) (text : List ℕ) → IsCode c → IsTextDecoderFor c self.now → TextHasCome c self.now text
+        ensures end { (c : CodeData) (text : List ℕ) → IsCode c → IsTextDecoderFor c self.now
+            → TextHasCome c self.now text
             → EndsText c text result }
     {
         if let Some(at) = self.fault {

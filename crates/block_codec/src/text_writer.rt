@@ -11,8 +11,8 @@ use shelf_io::{Failed, Shelf};
 use std::alloc::Global;
 use symbol_base::NoMemory;
 
-/// A writer of plain channel text under one code. It takes all its memory when it is made: the code's table,
-/// and room for the digits of one piece.
+/// A writer of plain channel text under one code. It takes all its memory when it is made: the
+/// code's table, and room for the digits of one piece.
 #[derive(Drop)]
 pub struct TextWriter {
     table: ItemTable,
@@ -29,8 +29,9 @@ impl TextWriter {
         Ok(TextWriter { table, room })
     }
 
-    /// Makes the named file the plain text of the data under the code: a digit for each symbol of lead-in,
-    /// data and lead-out, and a line feed. After a fault the file is untouched or a front of that text.
+    /// Makes the named file the plain text of the data under the code: a digit for each symbol of
+    /// lead-in, data and lead-out, and a line feed. After a fault the file is untouched or a front
+    /// of that text.
     pub fn write<F: Shelf>(
         &mut self,
         code: &Code,
@@ -40,7 +41,8 @@ impl TextWriter {
     ) -> Result<(), Failed>
         requires code { IsWriterFor code.now self.old }
         requires small { length file.now ≤ 2 ^ 26 }
-        ensures written { IsWritten name.now (plain_text code.now file.now) (F.files shelf.old) (F.files shelf.new) result }
+        ensures written { IsWritten name.now (plain_text code.now file.now) (F.files shelf.old)
+            (F.files shelf.new) result }
         ensures count { Counts (F.faults shelf.old) (F.faults shelf.new) result }
         ensures code { IsWriterFor code.now self.new }
     {
@@ -58,7 +60,8 @@ impl TextWriter {
     ) -> Result<(), Failed>
         requires code { IsWriterFor code.now self.old }
         requires small { length file.now ≤ 2 ^ 26 }
-        ensures appends { IsPutAll name.now (plain_text code.now file.now) (F.files shelf.old) (F.files shelf.new) result }
+        ensures appends { IsPutAll name.now (plain_text code.now file.now) (F.files shelf.old)
+            (F.files shelf.new) result }
         ensures count { Counts (F.faults shelf.old) (F.faults shelf.new) result }
         ensures code { IsWriterFor code.now self.new }
     {

@@ -9,7 +9,8 @@ use code_model::Code;
 use std::alloc::Global;
 use symbol_base::{Block, CodeName, Name, NoMemory};
 
-/// A walk that writes the last blocks of a window, from the place start on, and leads to the state at its end.
+/// A walk that writes the last blocks of a window, from the place start on, and leads to the state
+/// at its end.
 #[derive(Debug, Drop)]
 pub(crate) struct Walk {
     steps: Vec<Step>,
@@ -55,7 +56,8 @@ impl Walk {
     #[inline]
     pub(crate) fn move_on(&mut self)
         requires { 0 < length self.old.steps.items }
-        ensures steps { self.new.steps.items ≡ drop 1 self.old.steps.items ++ end_step self.old.end ∷ [] }
+        ensures steps { self.new.steps.items
+            ≡ drop 1 self.old.steps.items ++ end_step self.old.end ∷ [] }
         ensures start { self.new.start ≡ self.old.start - 1 }
     {
         let last = self.steps.len() - 1;

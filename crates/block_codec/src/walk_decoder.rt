@@ -11,8 +11,8 @@ use code_model::Code;
 use std::alloc::Global;
 use symbol_base::{Block, NoMemory};
 
-/// A sliding-block decoder that keeps a walk over the last blocks, which answers the windows that it writes. The
-/// other windows, those with a wrong block, are answered by the definition.
+/// A sliding-block decoder that keeps a walk over the last blocks, which answers the windows that
+/// it writes. The other windows, those with a wrong block, are answered by the definition.
 #[derive(Debug, Drop)]
 pub(crate) struct WalkDecoder {
     blocks: BlockDecoder,
@@ -31,13 +31,15 @@ impl WalkDecoder {
         })
     }
 
-    /// Takes a block, and answers the data word of the window that it ends; none while fewer blocks than
-    /// a window has have come.
+    /// Takes a block, and answers the data word of the window that it ends; none while fewer blocks
+    /// than a window has have come.
     pub(crate) fn take_block(&mut self, code: &Code, block: Block) -> Option<u32>
         requires code { IsWalkDecoderFor code.now self.old }
         ensures code { IsWalkDecoderFor code.now self.new }
-        ensures came { (came : List Block) → HasComeBy code.now self.old came → HasComeBy code.now self.new (came ++ block ∷ []) }
-        ensures answer { (came : List Block) → HasComeBy code.now self.old came → IsAnswer code.now (came ++ block ∷ []) result }
+        ensures came { (came : List Block) → HasComeBy code.now self.old came
+            → HasComeBy code.now self.new (came ++ block ∷ []) }
+        ensures answer { (came : List Block) → HasComeBy code.now self.old came
+            → IsAnswer code.now (came ++ block ∷ []) result }
         ensures small { IfSome result (IsDataWord code.now) }
     {
         let full = self.blocks.put(code, block);

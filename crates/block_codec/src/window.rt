@@ -7,7 +7,8 @@ use crate::state_sets::{reached, readable, word_into};
 use code_model::Code;
 use symbol_base::Block;
 
-/// A word by which a state of the front writes the block and goes to a state of the back; 0 where there is none.
+/// A word by which a state of the front writes the block and goes to a state of the back; 0 where
+/// there is none.
 fn word_between(code: &Code, front: &[bool; 512], block: Block, back: &[bool; 512]) -> u32
     ensures { IsBetweenSets code.now front.now block back.now result }
 {
@@ -21,8 +22,8 @@ fn word_between(code: &Code, front: &[bool; 512], block: Block, back: &[bool; 51
     0
 }
 
-/// The decoder's answer to a window of past + 1 + ahead blocks, by the definition: the data word at the place past of
-/// any walk that writes the window, and 0 where no walk does.
+/// The decoder's answer to a window of past + 1 + ahead blocks, by the definition: the data word at
+/// the place past of any walk that writes the window, and 0 where no walk does.
 pub(crate) fn decode_window(code: &Code, window: &[Block]) -> u32
     requires { length window.now ≡ window_length code.now }
     ensures answer { IsDecoded code.now window.now result }

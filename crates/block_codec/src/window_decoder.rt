@@ -32,15 +32,17 @@ impl WindowDecoder {
         Ok(WindowDecoder::Long(WalkDecoder::for_code(alloc, code)?))
     }
 
-    /// Takes a block, and answers the data word of the window that it ends; none while fewer blocks than
-    /// a window has have come.
+    /// Takes a block, and answers the data word of the window that it ends; none while fewer blocks
+    /// than a window has have come.
     #[inline]
     pub(crate) fn take_block(&mut self, code: &Code, block: Block) -> Option<u32>
         requires code { IsMadeFor code.now self.old }
         requires block { block.value < 2 ^ code.now.q }
         ensures code { IsMadeFor code.now self.new }
-        ensures came { (came : List Block) → HaveCome code.now self.old came → HaveCome code.now self.new (came ++ block ∷ []) }
-        ensures answer { (came : List Block) → HaveCome code.now self.old came → IsAnswer code.now (came ++ block ∷ []) result }
+        ensures came { (came : List Block) → HaveCome code.now self.old came
+            → HaveCome code.now self.new (came ++ block ∷ []) }
+        ensures answer { (came : List Block) → HaveCome code.now self.old came
+            → IsAnswer code.now (came ++ block ∷ []) result }
         ensures small { IfSome result (IsDataWord code.now) }
     {
         match self {

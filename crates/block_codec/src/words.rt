@@ -19,7 +19,8 @@ fn word_entry(code: &Code, state: CodeName, word: u32) -> ([u8; 32], CodeName)
     requires state { IsState code.now state }
     requires word { IsDataWord code.now word }
     requires code { IsCode code.now }
-    ensures { IsEntry code.now (one_word word) (2 ^ code.now.p) state result.0 (2 ^ code.now.p * result.1) }
+    ensures { IsEntry code.now (one_word word) (2 ^ code.now.p) state result.0
+        (2 ^ code.now.p * result.1) }
 {
     let mut lane = [b'0'; 32];
     let next = put_word(code, state, word, &mut lane, 0);
@@ -65,7 +66,8 @@ fn word_in(value: u64, k: u32, p: u32) -> u32
     (value >> (p * (7 - k)) & ((1 << p) - 1)) as u32
 }
 
-/// Puts the digits of the eight words of p bytes into the room, from place `at` on, and answers the next state.
+/// Puts the digits of the eight words of p bytes into the room, from place `at` on, and answers the
+/// next state.
 #[inline]
 fn put_group(
     code: &Code,
@@ -79,7 +81,8 @@ fn put_group(
     requires state { IsState code.now state }
     requires group { length group.now ≡ code.now.p }
     requires room { at + code.now.q * 8 + 32 ≤ length room.old }
-    ensures { PutsDigits code.now state (file_words code.now.p group.now) at room.old room.new result }
+    ensures { PutsDigits code.now state (file_words code.now.p group.now) at room.old room.new
+        result }
 {
     let p = code.p;
     let step = code.q as usize;
@@ -96,7 +99,8 @@ fn put_group(
     CodeName::at(place >> p)
 }
 
-/// Puts the digits of the words of bytes into the room, from place `at` on, and answers the next state.
+/// Puts the digits of the words of bytes into the room, from place `at` on, and answers the next
+/// state.
 fn put_rest(
     code: &Code,
     table: &Table<32>,
@@ -108,8 +112,10 @@ fn put_rest(
     requires table { IsWordTable code.now table.now }
     requires state { IsState code.now state }
     requires small { length bytes.now ≤ 8 }
-    requires room { at + code.now.q * word_count code.now.p (8 * length bytes.now) + 32 ≤ length room.old }
-    ensures { PutsDigits code.now state (file_words code.now.p bytes.now) at room.old room.new result }
+    requires room { at + code.now.q * word_count code.now.p (8 * length bytes.now) + 32
+        ≤ length room.old }
+    ensures { PutsDigits code.now state (file_words code.now.p bytes.now) at room.old room.new
+        result }
 {
     let p = code.p;
     let step = code.q as usize;
@@ -136,8 +142,10 @@ pub(crate) fn put_words(
     requires table { IsWordTable code.now table.now }
     requires state { IsState code.now state }
     requires small { length bytes.now ≤ 2 ^ 26 }
-    requires room { code.now.q * word_count code.now.p (8 * length bytes.now) + 32 ≤ length room.old }
-    ensures { PutsDigits code.now state (file_words code.now.p bytes.now) 0 room.old room.new result }
+    requires room { code.now.q * word_count code.now.p (8 * length bytes.now) + 32
+        ≤ length room.old }
+    ensures { PutsDigits code.now state (file_words code.now.p bytes.now) 0 room.old room.new
+        result }
 {
     let size = code.p as usize;
     let step = 8 * code.q as usize;

@@ -16,12 +16,14 @@ use symbol_base::{CodeName, Name, NoMemory, WordList};
 /// their words at place `past` differ. Pairs stand in order by the first walk's state, by the
 /// second's, and then by their words pair by pair.
 ///
-/// Keeps a bit for each pair of states and each of past + 1 + ahead lengths. For a length it goes once
-/// over the words of each pair of states that such walks can come to, in the order of their blocks.
+/// Keeps a bit for each pair of states and each of past + 1 + ahead lengths. For a length it goes
+/// once over the words of each pair of states that such walks can come to, in the order of their
+/// blocks.
 pub fn least_ambiguous_pair(alloc: Global, code: &Code) -> Result<Option<(Walk, Walk)>, NoMemory>
     ensures least { IfOk result (λ answer. IfSome answer (λ pair.
         IsLeastAmbiguous code.now code.now.past code.now.ahead pair.0 pair.1)) }
-    ensures none { IfOk result (λ answer. IfNone answer (Separates code.now code.now.past code.now.ahead)) }
+    ensures none { IfOk result (λ answer.
+        IfNone answer (Separates code.now code.now.past code.now.ahead)) }
 {
     match least_walk_of_pairs(alloc, code)? {
         Some((node, labels)) => Ok(Some(pair_of(alloc, code, node, &labels)?)),
@@ -33,9 +35,11 @@ pub fn least_ambiguous_pair(alloc: Global, code: &Code) -> Result<Option<(Walk, 
 fn least_walk_of_pairs(alloc: Global, code: &Code) -> Result<Option<(usize, Vec<u32>)>, NoMemory>
     ensures inside { IfOk result (λ answer. IfSome answer (λ found.
         found.0 < length code.now.rows * length code.now.rows)) }
-    ensures least { IfOk result (λ answer. IfSome answer (λ found. IsLeastAmbiguous code.now code.now.past code.now.ahead
+    ensures least { IfOk result (λ answer.
+        IfSome answer (λ found. IsLeastAmbiguous code.now code.now.past code.now.ahead
         (first_walk code.now found.0 found.1.items) (second_walk code.now found.0 found.1.items))) }
-    ensures none { IfOk result (λ answer. IfNone answer (Separates code.now code.now.past code.now.ahead)) }
+    ensures none { IfOk result (λ answer.
+        IfNone answer (Separates code.now code.now.past code.now.ahead)) }
 {
     let pairs = Pairs::of(alloc, code)?;
     least_unlike_walk(alloc, &pairs, code.past, code.ahead)

@@ -17,8 +17,8 @@ pub enum CheckFault {
     /// The least data words that write no word of the constraint from state 0: the shortest, and of
     /// these the smallest at the first difference.
     OutOfConstraint(WordList),
-    /// The least pair of walks that write the same blocks, and have unlike words where the window is to
-    /// tell the word.
+    /// The least pair of walks that write the same blocks, and have unlike words where the window
+    /// is to tell the word.
     Ambiguous(Walk, Walk),
     /// Memory was wanted and not found.
     NoMemory,

@@ -1,5 +1,5 @@
-//! The checker of codes: whether all that a code writes keeps its constraint, and whether its window
-//! tells its data words.
+//! The checker of codes: whether all that a code writes keeps its constraint, and whether its
+//! window tells its data words.
 #![tactic(auto)]
 
 ghost use Rattle.std.specs.Prelude.{◌≡◌, ◌⊎◌};
@@ -34,9 +34,11 @@ pub use words::least_words_outside;
 /// A code has one answer, want of memory aside: a checked code within the limits has no fault, and
 /// no code has two.
 pub fn a_code_has_one_answer()
-    ensures none { (c : CodeData) (fault : CheckFault) → IsCheckedCode c → IsWithinLimits c.constraint
+    ensures none { (c : CodeData) (fault : CheckFault) → IsCheckedCode c
+        → IsWithinLimits c.constraint
         → IsCheckFault c fault → fault ≡ faults.NoMemory }
-    ensures one { (c : CodeData) (fault other : CheckFault) → IsCheckFault c fault → IsCheckFault c other
+    ensures one { (c : CodeData) (fault other : CheckFault) → IsCheckFault c fault
+        → IsCheckFault c other
         → (fault ≡ faults.NoMemory) ⊎ ((other ≡ faults.NoMemory) ⊎ (fault ≡ other)) }
 {
     a_constraint_has_one_cover();

@@ -23,8 +23,10 @@ pub fn meet_in(
     requires first { IsNonDecreasingBy (λ (item : BlockWord). item.block.value) first.now }
     requires second { IsNonDecreasingBy (λ (item : BlockWord). item.block.value) second.now }
     requires few { states ≤ 512 }
-    requires first_inside { (i : ℕ) → i < length first.now → (get_or first.now i no_word).to < states }
-    requires second_inside { (k : ℕ) → k < length second.now → (get_or second.now k no_word).to < states }
+    requires first_inside { (i : ℕ) → i < length first.now
+        → (get_or first.now i no_word).to < states }
+    requires second_inside { (k : ℕ) → k < length second.now
+        → (get_or second.now k no_word).to < states }
     requires room { states * states ≤ length pairs.now }
     ensures tells { IsTrue result ↔ ((i k : ℕ) × (i < length first.now) × (k < length second.now)
         × Meets arcs states pairs.now (get_or first.now i no_word) (get_or second.now k no_word)) }
@@ -44,8 +46,10 @@ fn first_not_before(list: &[BlockWord], from: usize, block: Block) -> usize
     requires from { from ≤ length list.now }
     ensures later { from ≤ result }
     ensures inside { result ≤ length list.now }
-    ensures front { (k : ℕ) → from ≤ k → k < result → (get_or list.now k no_word).block.value < block.value }
-    ensures back { result < length list.now → block.value ≤ (get_or list.now result no_word).block.value }
+    ensures front { (k : ℕ) → from ≤ k → k < result
+        → (get_or list.now k no_word).block.value < block.value }
+    ensures back { result < length list.now
+        → block.value ≤ (get_or list.now result no_word).block.value }
 {
     let mut at = from;
     while at < list.len() && list[at].block.value < block.value {
@@ -54,7 +58,8 @@ fn first_not_before(list: &[BlockWord], from: usize, block: Block) -> usize
     at
 }
 
-/// Whether the word and one of the list, from this place on, write the same block and lead into the set.
+/// Whether the word and one of the list, from this place on, write the same block and lead into the
+/// set.
 fn meets(
     item: BlockWord,
     list: &[BlockWord],
@@ -65,13 +70,17 @@ fn meets(
 ) -> bool
     requires from { from ≤ length list.now }
     requires rise { IsNonDecreasingBy (λ (item : BlockWord). item.block.value) list.now }
-    requires front { (k : ℕ) → k < from → (get_or list.now k no_word).block.value < item.block.value }
-    requires back { from < length list.now → item.block.value ≤ (get_or list.now from no_word).block.value }
+    requires front { (k : ℕ) → k < from
+        → (get_or list.now k no_word).block.value < item.block.value }
+    requires back { from < length list.now
+        → item.block.value ≤ (get_or list.now from no_word).block.value }
     requires few { states ≤ 512 }
     requires inside { item.to < states }
     requires list_inside { (k : ℕ) → k < length list.now → (get_or list.now k no_word).to < states }
     requires room { states * states ≤ length pairs.now }
-    ensures tells { IsTrue result ↔ ((k : ℕ) × (k < length list.now) × Meets arcs states pairs.now item (get_or list.now k no_word)) }
+    ensures tells { IsTrue result
+        ↔ ((k : ℕ) × (k < length list.now)
+        × Meets arcs states pairs.now item (get_or list.now k no_word)) }
 {
     for at in from..list.len() {
         let other = list[at];
@@ -92,7 +101,8 @@ fn leads(item: BlockWord, other: BlockWord, arcs: Arcs, states: usize, pairs: &N
     requires item { item.to < states }
     requires other { other.to < states }
     requires room { states * states ≤ length pairs.now }
-    ensures leads { IsTrue result ↔ (AreMeant arcs item.word other.word × IsIn pairs.now (item.to * states + other.to)) }
+    ensures leads { IsTrue result
+        ↔ (AreMeant arcs item.word other.word × IsIn pairs.now (item.to * states + other.to)) }
 {
     let meant = match arcs {
         Arcs::All => true,

@@ -106,8 +106,10 @@ fn pair_word(
     requires second { IsState code.now second }
     requires list { AreByBlock code.now second (2 ^ code.now.p) list.now }
     requires word { IsDataWord code.now word }
-    requires room { AreArcsBelow (pair_graph code.now) (first * length code.now.rows + second) (word * 2 ^ code.now.p) room.old.items }
-    ensures room { IfOk result (λ _. AreArcsBelow (pair_graph code.now) (first * length code.now.rows + second)
+    requires room { AreArcsBelow (pair_graph code.now) (first * length code.now.rows + second)
+        (word * 2 ^ code.now.p) room.old.items }
+    ensures room { IfOk result (λ _.
+        AreArcsBelow (pair_graph code.now) (first * length code.now.rows + second)
         ((word + 1) * 2 ^ code.now.p) room.new.items) }
 {
     let (block, to) = code.step(first, word);
@@ -126,7 +128,8 @@ fn pair_word(
     Ok(())
 }
 
-/// The number of a pair of numbers that are below so many: the first times their number, and the second.
+/// The number of a pair of numbers that are below so many: the first times their number, and the
+/// second.
 fn pair_number(first: u32, second: u32, count: u32) -> u32
     requires first { first < count }
     requires second { second < count }

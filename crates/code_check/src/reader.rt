@@ -17,7 +17,8 @@ pub struct MoveTable {
 }
 
 impl MoveTable {
-    /// The table of the words of this length, with 2^`symbols` entries for each state and for "no word".
+    /// The table of the words of this length, with 2^`symbols` entries for each state and for "no
+    /// word".
     pub fn of(alloc: Global, graph: &Graph<CoverName>, symbols: u32) -> Result<MoveTable, NoMemory>
         requires few { length graph.now ≤ 256 }
         requires short { symbols ≤ 10 }

@@ -60,7 +60,8 @@ impl<'a> Reads<'a> {
     /// The nodes at which what was read is no word, as marks.
     pub fn outside(&self, alloc: Global) -> Result<Vec<bool>, NoMemory>
         ensures count { IfOk result (λ goals. length goals.items ≡ (graph_of self.now).nodes) }
-        ensures goals { IfOk result (λ goals. AreOutside self.now.code (length self.now.cover) goals.items) }
+        ensures goals { IfOk result (λ goals.
+            AreOutside self.now.code (length self.now.cover) goals.items) }
         ensures table { IsCode self.now.code }
     {
         let none = self.cover.states() as usize;
@@ -76,7 +77,8 @@ impl<'a> Reads<'a> {
     fn read(&self, state: u32, block: Block) -> u32
         requires state { state ≤ length self.now.cover }
         requires block { block.value < 2 ^ self.now.code.q }
-        ensures read { result ≡ after (move_on self.now.cover) state (symbols_of 2 self.now.code.q block.value) }
+        ensures read { result
+            ≡ after (move_on self.now.cover) state (symbols_of 2 self.now.code.q block.value) }
         ensures inside { result ≤ length self.now.cover }
     {
         let symbols = self.back.symbols();

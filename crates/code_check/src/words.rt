@@ -12,13 +12,13 @@ use least_walks::least_walk;
 use std::alloc::Global;
 use symbol_base::{NoMemory, WordList};
 
-/// The least data words that write no word of the code's constraint from state 0; none exactly where
-/// all write one.
+/// The least data words that write no word of the code's constraint from state 0; none exactly
+/// where all write one.
 ///
-/// Shorter lists come before longer ones, and of one length the smaller at the first difference. The
-/// cover is that of the constraint. Searches the pairs of a state of the code and one of the cover
-/// breadth first: it takes time in proportion to the pairs that data words lead to times the data
-/// words, and memory in proportion to the pairs.
+/// Shorter lists come before longer ones, and of one length the smaller at the first difference.
+/// The cover is that of the constraint. Searches the pairs of a state of the code and one of the
+/// cover breadth first: it takes time in proportion to the pairs that data words lead to times the
+/// data words, and memory in proportion to the pairs.
 pub fn least_words_outside(
     alloc: Global,
     code: &Code,
@@ -26,7 +26,8 @@ pub fn least_words_outside(
 ) -> Result<Option<WordList>, NoMemory>
     requires cover { IsCoverOf (IsWordOf code.now.constraint) cover.now.graph }
     ensures least { IfOk result (λ answer. IfSome answer (λ words. IsLeastOutside code.now words)) }
-    ensures none { IfOk result (λ answer. IfNone answer ((words : List ℕ) → IsDataWords code.now words
+    ensures none { IfOk result (λ answer.
+        IfNone answer ((words : List ℕ) → IsDataWords code.now words
         → WritesWord code.now words)) }
 {
     let reads = Reads::of(alloc, code, &cover.graph)?;

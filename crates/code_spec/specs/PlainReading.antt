@@ -78,4 +78,5 @@ pub data ReadsText (c : CodeData) (text : List ℕ) : Result (List ℕ) EndFault
   part_block : IsChannelText c text → (length (symbols_in text) % c.q ≡ 0 → ⊥) → ReadsText c text (Err (PartBlock (length (symbols_in text))))
   too_short : IsChannelText c text → (count : ℕ) → length (symbols_in text) ≡ c.q * count → count < c.past + c.ahead → ReadsText c text (Err (TooShort count))
   part_byte : IsChannelText c text → (count : ℕ) → HasWords c text count → c.p ≤ count * c.p % 8 → ReadsText c text (Err (PartByte count))
-  reads : IsChannelText c text → (count : ℕ) → HasWords c text count → count * c.p % 8 < c.p → (file : List ℕ) → IsPlainFront c text file → ReadsText c text (Ok file)
+  reads : IsChannelText c text → (count : ℕ) → HasWords c text count → count * c.p % 8 < c.p
+      → (file : List ℕ) → IsPlainFront c text file → ReadsText c text (Ok file)

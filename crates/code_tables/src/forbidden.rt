@@ -24,7 +24,8 @@ fn digit_run(bytes: &[u8]) -> usize
 /// The digits of a word of 1 to 32 symbols, which a line feed ends.
 #[tactic(auto, unfolding(crate::specs::inside::Reading::digits_at))]
 fn word_digits(bytes: &[u8]) -> Option<(&[u8], &[u8])>
-    ensures read { Gives (λ x. (map (λ byte. byte - 48) x.0.now, x.1.now)) result (digits_at bytes.now) }
+    ensures read { Gives (λ x. (map (λ byte. byte - 48) x.0.now, x.1.now)) result
+        (digits_at bytes.now) }
     ensures short { IfSome result (λ x. length x.0.now ≤ 32) }
 {
     let (digits, rest) = bytes.split_at(digit_run(bytes));
@@ -74,7 +75,8 @@ fn read_word<'a>(
     before: Option<&[u8]>,
     line: u64,
 ) -> Result<(ByteList, &'a [u8]), CodeTextFault>
-    ensures { GivesLines (λ x. (x.0, x.1.now)) result (one_line (forbidden_at (option_map (λ b. b.now) before.entry)) line bytes.now) }
+    ensures { GivesLines (λ x. (x.0, x.1.now)) result
+        (one_line (forbidden_at (option_map (λ b. b.now) before.entry)) line bytes.now) }
 {
     let Some((digits, rest)) = word_digits(bytes) else {
         return Err(CodeTextFault::BadCode(line));
@@ -96,7 +98,8 @@ pub fn read_words(
 ) -> Result<(Vec<ByteList>, &[u8]), CodeTextFault>
     requires many { count ≤ 128 }
     requires first { first ≤ 2 ^ 16 }
-    ensures { GivesLines (λ x. (x.0.items, x.1.now)) result (forbidden_words_at count first bytes.now) }
+    ensures { GivesLines (λ x. (x.0.items, x.1.now)) result
+        (forbidden_words_at count first bytes.now) }
 {
     let mut words = Vec::with_capacity(alloc, count as usize)?;
     let mut rest = bytes;

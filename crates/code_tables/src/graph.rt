@@ -65,7 +65,8 @@ pub fn read_edges(
     requires few { states ≤ 256 }
     requires many { count ≤ 2048 }
     requires first { first ≤ 2 ^ 16 }
-    ensures { GivesLines (λ x. (x.0.items, x.1.now)) result (edges_at states count first bytes.now) }
+    ensures { GivesLines (λ x. (x.0.items, x.1.now)) result
+        (edges_at states count first bytes.now) }
 {
     let mut edges = Vec::with_capacity(alloc, count as usize)?;
     let mut rest = bytes;

@@ -1,4 +1,5 @@
-//! Code files: the code that a text spells or the first line that breaks its rule, and the text of a code.
+//! Code files: the code that a text spells or the first line that breaks its rule, and the text of
+//! a code.
 #![tactic(auto)]
 
 mod fault;

@@ -38,7 +38,10 @@ fn write_sizes(code: &Code, text: &mut String) -> Result<(), NoMemory>
 
 /// The rows of all states.
 fn write_table(code: &Code, table: &[Vec<CodeRow>], text: &mut String) -> Result<(), NoMemory>
-    ensures { OnOk result (string_bytes text.new ≡ string_bytes text.old ++ text_of (table_lines code.now 0 (map (λ rows. rows.items) table.now))) }
+    ensures { OnOk result
+        (string_bytes text.new
+        ≡ string_bytes text.old
+        ++ text_of (table_lines code.now 0 (map (λ rows. rows.items) table.now))) }
 {
     for (state, rows) in table.iter().enumerate() {
         write_state(code, state, rows.as_slice(), text)?;
@@ -53,7 +56,9 @@ fn write_state(
     rows: &[CodeRow],
     text: &mut String,
 ) -> Result<(), NoMemory>
-    ensures { OnOk result (string_bytes text.new ≡ string_bytes text.old ++ text_of (state_lines code.now state 0 rows.now)) }
+    ensures { OnOk result
+        (string_bytes text.new
+        ≡ string_bytes text.old ++ text_of (state_lines code.now state 0 rows.now)) }
 {
     for (word, row) in rows.iter().enumerate() {
         write_row(code, state, word, *row, text)?;
@@ -83,7 +88,9 @@ pub fn write_block(block: Block, q: u32, alphabet: u8, text: &mut String) -> Res
     requires short { q ≤ 20 }
     requires least { 2 ≤ alphabet }
     requires most { alphabet ≤ 4 }
-    ensures { OnOk result (string_bytes text.new ≡ string_bytes text.old ++ digits (symbols_of alphabet q block.value)) }
+    ensures { OnOk result
+        (string_bytes text.new
+        ≡ string_bytes text.old ++ digits (symbols_of alphabet q block.value)) }
 {
     for at in 0..q {
         write_digit(block.symbol(at, q, alphabet), text)?;

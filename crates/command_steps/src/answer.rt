@@ -8,7 +8,8 @@ use crate::status::Status;
 use shelf_io::{Failed, Shelf, put_all};
 use std::marker::Model;
 
-/// What a command answers: its status, the bytes of its output file, where it writes one, and what it prints.
+/// What a command answers: its status, the bytes of its output file, where it writes one, and what
+/// it prints.
 #[derive(Drop)]
 pub struct Reply {
     status: Status,
@@ -64,7 +65,8 @@ fn write_file<F: Shelf>(shelf: &mut F, name: &str, bytes: &[u8]) -> Result<(), F
 /// Writes the output, where there is one.
 #[tactic(auto, using(crate::proofs::EndLaws::outputs))]
 fn write_output<F: Shelf>(shelf: &mut F, name: &str, output: &Option<Vec<u8>>) -> Result<(), Failed>
-    ensures { IsOutput name.now (option_map (λ bytes. bytes.items) output.now) (seen F.files F.faults shelf.old) (seen F.files F.faults shelf.new) result }
+    ensures { IsOutput name.now (option_map (λ bytes. bytes.items) output.now)
+        (seen F.files F.faults shelf.old) (seen F.files F.faults shelf.new) result }
 {
     match output {
         None => Ok(()),
@@ -72,10 +74,12 @@ fn write_output<F: Shelf>(shelf: &mut F, name: &str, output: &Option<Vec<u8>>) -
     }
 }
 
-/// Writes the output of an answer as the named file, and gives what is left to print, or the status that isn't `Done`.
+/// Writes the output of an answer as the named file, and gives what is left to print, or the status
+/// that isn't `Done`.
 #[tactic(auto, using(crate::specs::Answer::delivered, crate::specs::Answer::lost, crate::specs::Answer::broken))]
 pub fn deliver<F: Shelf>(shelf: &mut F, name: &str, reply: Reply) -> Result<String, Status>
-    ensures { Delivers reply name.now (seen F.files F.faults shelf.old) (seen F.files F.faults shelf.new) (text_left result) }
+    ensures { Delivers reply name.now (seen F.files F.faults shelf.old)
+        (seen F.files F.faults shelf.new) (text_left result) }
 {
     let Reply {
         status,

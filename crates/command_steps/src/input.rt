@@ -6,7 +6,8 @@ use crate::status::Status;
 use shelf_io::{ReadAllFault, Shelf, read_all};
 use std::alloc::Global;
 
-/// Reads an input file of a command, whose name is the word at this place, of at most `limit` bytes.
+/// Reads an input file of a command, whose name is the word at this place, of at most `limit`
+/// bytes.
 #[tactic(auto, using(crate::proofs::InputLaws::input_found, crate::proofs::InputLaws::input_missing, crate::proofs::InputLaws::input_too_long, crate::proofs::InputLaws::seen_is, crate::specs::Promise::fault, crate::specs::Promise::memory))]
 pub fn read_input<F: Shelf>(
     alloc: Global,
@@ -15,7 +16,8 @@ pub fn read_input<F: Shelf>(
     place: u32,
     limit: u64,
 ) -> Result<Vec<u8>, Status>
-    ensures input { Follows (λ v. v.items) (InputAt name.now place limit) (seen F.files F.faults shelf.old) (seen F.files F.faults shelf.new) result }
+    ensures input { Follows (λ v. v.items) (InputAt name.now place limit)
+        (seen F.files F.faults shelf.old) (seen F.files F.faults shelf.new) result }
     ensures within { IfOk result (λ v. length v.items ≤ limit) }
 {
     match read_all(alloc, shelf, name, limit) {

@@ -1,4 +1,5 @@
-//! What every command is made of: its input files, its answer, the status that it ends with, and what it prints.
+//! What every command is made of: its input files, its answer, the status that it ends with, and
+//! what it prints.
 #![tactic(auto)]
 
 mod answer;
@@ -11,6 +12,6 @@ mod tests;
 
 pub use answer::{Reply, deliver};
 pub use input::read_input;
-pub use lines::{status_line, write_behind_spaces};
+pub use lines::status_line;
 pub use printing::{print_all, print_line};
 pub use status::{ChannelFault, CodeFault, Limit, Status};

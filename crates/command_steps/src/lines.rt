@@ -66,7 +66,8 @@ fn constraint_fault_line(alloc: Global, fault: &ConstraintFault) -> Result<Vec<u
 
 /// The line of a key that is none of the five, byte for byte.
 fn unknown_key_line(alloc: Global, key: &[u8]) -> Result<Vec<u8>, NoMemory>
-    ensures { IfOk result (λ line. line.items ≡ codes "constraint refused: unknown key " ++ key.now ++ 10 ∷ []) }
+    ensures { IfOk result (λ line.
+        line.items ≡ codes "constraint refused: unknown key " ++ key.now ++ 10 ∷ []) }
 {
     let mut line = String::from_str(alloc, "constraint refused: unknown key ")?.into_bytes();
     line.extend_from_slice(key)?;
@@ -144,7 +145,9 @@ fn code_fault_line(alloc: Global, fault: &CodeFault) -> Result<String, NoMemory>
 
 /// The line of data words whose blocks are no word of the constraint.
 fn outside_line(alloc: Global, words: &[u32]) -> Result<String, NoMemory>
-    ensures { IfOk result (λ line. string_bytes line ≡ codes "code refused: out of constraint" ++ behind_spaces words.now ++ 10 ∷ []) }
+    ensures { IfOk result (λ line.
+        string_bytes line
+        ≡ codes "code refused: out of constraint" ++ behind_spaces words.now ++ 10 ∷ []) }
 {
     let mut line = String::from_str(alloc, "code refused: out of constraint")?;
     write_behind_spaces(words, &mut line)?;
@@ -154,7 +157,8 @@ fn outside_line(alloc: Global, words: &[u32]) -> Result<String, NoMemory>
 
 /// The line of two walks that write the same blocks.
 fn ambiguous_line(alloc: Global, first: &Walk, second: &Walk) -> Result<String, NoMemory>
-    ensures { IfOk result (λ line. string_bytes line ≡ line_of_code_fault (faults.Ambiguous first.now second.now)) }
+    ensures { IfOk result (λ line.
+        string_bytes line ≡ line_of_code_fault (faults.Ambiguous first.now second.now)) }
 {
     let mut line = String::from_str(alloc, "code refused: ambiguous")?;
     write_walk(first, &mut line)?;
@@ -166,7 +170,9 @@ fn ambiguous_line(alloc: Global, first: &Walk, second: &Walk) -> Result<String, 
 
 /// Writes the state and the data words of a walk, each behind a space.
 fn write_walk(walk: &Walk, text: &mut String) -> Result<(), NoMemory>
-    ensures { OnOk result (string_bytes text.new ≡ string_bytes text.old ++ behind_spaces (walk.now.state ∷ walk.now.words)) }
+    ensures { OnOk result
+        (string_bytes text.new
+        ≡ string_bytes text.old ++ behind_spaces (walk.now.state ∷ walk.now.words)) }
 {
     let state = walk.state.index();
     write!(text, " {state}")?;
@@ -175,7 +181,8 @@ fn write_walk(walk: &Walk, text: &mut String) -> Result<(), NoMemory>
 
 /// Writes each number behind a space. Where memory is wanted, a front of them may stand there.
 pub fn write_behind_spaces(numbers: &[u32], text: &mut String) -> Result<(), NoMemory>
-    ensures { OnOk result (string_bytes text.new ≡ string_bytes text.old ++ behind_spaces numbers.now) }
+    ensures { OnOk result
+        (string_bytes text.new ≡ string_bytes text.old ++ behind_spaces numbers.now) }
 {
     for number in numbers {
         write!(text, " {number}")?;

@@ -8,7 +8,8 @@ use std::alloc::Global;
 
 /// Prints all bytes. After a fault of the sink a front of them was printed.
 pub fn print_all<K: TextSink>(out: &mut K, bytes: &[u8]) -> Result<(), Failed>
-    ensures { IsPrinted bytes.now (said K.written K.faults out.old) (said K.written K.faults out.new) result }
+    ensures { IsPrinted bytes.now (said K.written K.faults out.old)
+        (said K.written K.faults out.new) result }
 {
     let mut at = 0;
     while at < bytes.len() {
@@ -20,7 +21,8 @@ pub fn print_all<K: TextSink>(out: &mut K, bytes: &[u8]) -> Result<(), Failed>
 /// Prints the line of a status, as far as the sink takes it; for want of memory nothing.
 #[tactic(auto, using(crate::proofs::EndLaws::lines))]
 pub fn print_line<K: TextSink>(alloc: Global, out: &mut K, status: &Status)
-    ensures { SaysLine status.now (said K.written K.faults out.old) (said K.written K.faults out.new) }
+    ensures { SaysLine status.now (said K.written K.faults out.old)
+        (said K.written K.faults out.new) }
 {
     if let Ok(line) = status_line(alloc, status) {
         let _printed = print_all(out, line.as_slice());

@@ -12,7 +12,8 @@ use symbol_base::{NoMemory, WordList};
 pub enum CodeFault {
     /// The number, from 1, of the first line that breaks its rule.
     BadCode(u64),
-    /// The first data words, shorter lists first, for which the code writes no word of its constraint.
+    /// The first data words, shorter lists first, for which the code writes no word of its
+    /// constraint.
     OutOfConstraint(WordList),
     /// The first two walks that write the same blocks, while the window is to tell different words.
     Ambiguous(Walk, Walk),
@@ -34,7 +35,8 @@ pub enum ChannelFault {
 /// A counted number that is over its limit, with its value.
 #[derive(Clone, Copy, Debug, PartialEq, Eq)]
 pub enum Limit {
-    /// The raw states of the constraint's words, as far as they are counted: one more than the limit.
+    /// The raw states of the constraint's words, as far as they are counted: one more than the
+    /// limit.
     RawStates(u32),
     /// The states of the constraint's cover.
     CoverStates(u32),
@@ -59,7 +61,8 @@ pub enum Status {
     ShelfFault,
     /// The command was done but for printing, and the sink failed.
     SinkFault,
-    /// A file that was read, or the text that would have been written, has more bytes than this limit.
+    /// A file that was read, or the text that would have been written, has more bytes than this
+    /// limit.
     FileTooLong(u64),
     /// The constraint file is refused.
     ConstraintRefused(ConstraintFault),

@@ -5,8 +5,8 @@ use std::alloc::{AllocError, AllocFailed};
 use symbol_base::{ByteList, NoMemory};
 use thiserror::Error;
 
-/// Why a constraint file was not read: the first of the eight refusals that holds, in this order, or
-/// want of memory.
+/// Why a constraint file was not read: the first of the eight refusals that holds, in this order,
+/// or want of memory.
 #[derive(Debug, PartialEq, Eq, Drop, Error)]
 pub enum ConstraintFault {
     /// The bytes are no document in TOML.

@@ -29,18 +29,21 @@ pub fn one_outcome()
 
 /// The constraint of a file keeps the ranges and orders of constraints, and has two symbols.
 pub fn constraints_keep_their_ranges()
-    ensures ranges { (bytes : List ℕ) (c : ConstraintData) → ReadsConstraint bytes (Ok c) → IsConstraint c }
-    ensures alphabet { (bytes : List ℕ) (c : ConstraintData) → ReadsConstraint bytes (Ok c) → c.alphabet ≡ 2 }
+    ensures ranges { (bytes : List ℕ) (c : ConstraintData) → ReadsConstraint bytes (Ok c)
+        → IsConstraint c }
+    ensures alphabet { (bytes : List ℕ) (c : ConstraintData) → ReadsConstraint bytes (Ok c)
+        → c.alphabet ≡ 2 }
 {}
 
-/// A file is refused for an unknown key exactly where it is a table with such keys, and the least of
-/// them by its bytes is named.
+/// A file is refused for an unknown key exactly where it is a table with such keys, and the least
+/// of them by its bytes is named.
 pub fn least_unknown_key_is_named()
     ensures { (bytes name : List ℕ) → ReadsConstraint bytes (Err (UnknownKey name))
         ↔ ((table : Members) × (document_of bytes ≡ Some table) × IsLeastUnknown table name) }
 {}
 
-/// Values are looked at in the order of the keys: the first key whose value has another type is named.
+/// Values are looked at in the order of the keys: the first key whose value has another type is
+/// named.
 pub fn first_wrong_type_is_named()
     ensures { (table : Members) (fault : ConstraintFault)
         → (listed_parts table ≡ Err fault) ↔ (wrong_type table ≡ Some fault) }
@@ -52,7 +55,8 @@ pub fn states_are_numbered_by_first_mention()
     ensures order { (edges : List ListedEdge)
         → IsAscendingOf (IsMentionedBefore (mentions edges)) (mentions edges) (state_names edges) }
     ensures once { (edges : List ListedEdge) (name : List ℕ) (i j : ℕ)
-        → slice_get (state_names edges) i ≡ Some name → slice_get (state_names edges) j ≡ Some name → i ≡ j }
+        → slice_get (state_names edges) i ≡ Some name → slice_get (state_names edges) j ≡ Some name
+        → i ≡ j }
     ensures numbers { (edges : List ListedEdge) (e : ListedEdge) → Contains edges e
         → (slice_get (state_names edges) (numbered (state_names edges) e).from ≡ Some e.from)
         × (slice_get (state_names edges) (numbered (state_names edges) e).to ≡ Some e.to) }

@@ -26,7 +26,8 @@ pub fn check_keys(alloc: Global, table: &Table) -> Result<(), ConstraintFault>
 }
 
 fn first_unknown(table: &Table) -> Option<&String>
-    ensures { option_copied result ≡ find (λ name. not (is_key (string_bytes name))) (keys table.now) }
+    ensures { option_copied result
+        ≡ find (λ name. not (is_key (string_bytes name))) (keys table.now) }
 {
     table.keys().find(|name| !is_key(name.as_str()))
 }

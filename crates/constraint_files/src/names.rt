@@ -11,8 +11,9 @@ use symbol_base::{ByteList, NoMemory};
 /// The most names of states that a file may mention.
 const MOST_NAMES: usize = 256;
 
-/// The names of the states in order of first mention, `from` before `to`: a state's number is the place of
-/// its name. Refuses more edges than a constraint may have, counted as they are listed, and more names.
+/// The names of the states in order of first mention, `from` before `to`: a state's number is the
+/// place of its name. Refuses more edges than a constraint may have, counted as they are listed,
+/// and more names.
 pub fn number_states(
     alloc: Global,
     edges: &[ListedEdge],

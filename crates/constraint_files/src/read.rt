@@ -20,8 +20,9 @@ use toml::Table;
 
 /// The constraint that a constraint file lists.
 ///
-/// The file is a table in TOML with at most the five keys of `Key`. Where it is refused, the fault is
-/// the first refusal that holds, in the order of `ConstraintFault`; only want of memory may come in its place.
+/// The file is a table in TOML with at most the five keys of `Key`. Where it is refused, the fault
+/// is the first refusal that holds, in the order of `ConstraintFault`; only want of memory may come
+/// in its place.
 pub fn read_constraint(alloc: Global, bytes: &[u8]) -> Result<Constraint, ConstraintFault>
     ensures { ReadsConstraint bytes.now result }
 {
@@ -43,10 +44,12 @@ fn read_table(alloc: Global, bytes: &[u8]) -> Result<Table, ConstraintFault>
     }
 }
 
-/// The names of the states of a file whose numbers are in range and whose counts and digits are in order.
+/// The names of the states of a file whose numbers are in range and whose counts and digits are in
+/// order.
 fn check_parts(alloc: Global, file: &ListedParts) -> Result<IndexSet<ByteList>, ConstraintFault>
     ensures names { IfOk result (λ names. names.keys ≡ state_names file.now.edges.items) }
-    ensures checked { Answers (λ _. listed_data file.now) result (checked_parts (listed_data file.now)) }
+    ensures checked { Answers (λ _. listed_data file.now) result
+        (checked_parts (listed_data file.now)) }
 {
     check_range(Key::Alphabet, file.alphabet)?;
     check_range(Key::D, file.d)?;

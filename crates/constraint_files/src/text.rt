@@ -8,7 +8,8 @@ use constraint_model::{Constraint, GraphEdge};
 use std::alloc::Global;
 use symbol_base::{ByteList, NoMemory};
 
-/// The lines of a code file that the constraint alone decides, from `alphabet` to the last edge of the graph.
+/// The lines of a code file that the constraint alone decides, from `alphabet` to the last edge of
+/// the graph.
 pub fn constraint_text(alloc: Global, constraint: &Constraint) -> Result<ByteList, NoMemory>
     ensures { IfOk result (λ text. text ≡ text_of (constraint_lines constraint.now)) }
 {
@@ -19,7 +20,9 @@ pub fn constraint_text(alloc: Global, constraint: &Constraint) -> Result<ByteLis
 
 /// Writes the same lines behind a text. Where memory is wanted, a front of them may stand there.
 pub fn write_constraint(constraint: &Constraint, text: &mut String) -> Result<(), NoMemory>
-    ensures { OnOk result (string_bytes text.new ≡ string_bytes text.old ++ text_of (constraint_lines constraint.now)) }
+    ensures { OnOk result
+        (string_bytes text.new
+        ≡ string_bytes text.old ++ text_of (constraint_lines constraint.now)) }
 {
     write_runs(constraint, text)?;
     write_words(constraint.forbid.as_slice(), text)?;
@@ -44,7 +47,9 @@ fn write_runs(constraint: &Constraint, text: &mut String) -> Result<(), NoMemory
 
 /// The line of a key with a number.
 fn write_number(key: Key, number: u64, text: &mut String) -> Result<(), NoMemory>
-    ensures { OnOk result (string_bytes text.new ≡ string_bytes text.old ++ text_of (spaced (key_name key) (decimal number) ∷ [])) }
+    ensures { OnOk result
+        (string_bytes text.new
+        ≡ string_bytes text.old ++ text_of (spaced (key_name key) (decimal number) ∷ [])) }
 {
     let name = key.name();
     write!(text, "{name} {number}\n")?;
@@ -53,7 +58,9 @@ fn write_number(key: Key, number: u64, text: &mut String) -> Result<(), NoMemory
 
 /// The line of the runs of 0s where they have no limit.
 fn write_no_limit(text: &mut String) -> Result<(), NoMemory>
-    ensures { OnOk result (string_bytes text.new ≡ string_bytes text.old ++ text_of (spaced (codes "k") (limit None) ∷ [])) }
+    ensures { OnOk result
+        (string_bytes text.new
+        ≡ string_bytes text.old ++ text_of (spaced (codes "k") (limit None) ∷ [])) }
 {
     let name = Key::K.name();
     write!(text, "{name} -\n")?;
@@ -63,7 +70,8 @@ fn write_no_limit(text: &mut String) -> Result<(), NoMemory>
 /// A line of digits for each word.
 fn write_words(words: &[ByteList], text: &mut String) -> Result<(), NoMemory>
     requires { All (All (λ symbol. symbol < 10)) words.now }
-    ensures { OnOk result (string_bytes text.new ≡ string_bytes text.old ++ text_of (map digits words.now)) }
+    ensures { OnOk result
+        (string_bytes text.new ≡ string_bytes text.old ++ text_of (map digits words.now)) }
 {
     for word in words {
         write_digits(word.as_slice(), text)?;
@@ -105,7 +113,8 @@ fn write_graph_size(constraint: &Constraint, text: &mut String) -> Result<(), No
 
 /// A line for each edge.
 fn write_edges(edges: &[GraphEdge], text: &mut String) -> Result<(), NoMemory>
-    ensures { OnOk result (string_bytes text.new ≡ string_bytes text.old ++ text_of (map edge_line edges.now)) }
+    ensures { OnOk result
+        (string_bytes text.new ≡ string_bytes text.old ++ text_of (map edge_line edges.now)) }
 {
     for edge in edges {
         write_edge(edge, text)?;
@@ -114,7 +123,8 @@ fn write_edges(edges: &[GraphEdge], text: &mut String) -> Result<(), NoMemory>
 }
 
 fn write_edge(edge: &GraphEdge, text: &mut String) -> Result<(), NoMemory>
-    ensures { OnOk result (string_bytes text.new ≡ string_bytes text.old ++ (edge_line edge.now ++ 10 ∷ [])) }
+    ensures { OnOk result
+        (string_bytes text.new ≡ string_bytes text.old ++ (edge_line edge.now ++ 10 ∷ [])) }
 {
     let from = edge.from;
     let label = edge.label;

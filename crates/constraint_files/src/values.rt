@@ -76,7 +76,8 @@ fn listed_edge(alloc: Global, from: &str, label: &str, to: &str) -> Result<Liste
 
 /// The forbidden words of an array of texts.
 pub fn texts_of(alloc: Global, values: &[Value]) -> Result<Vec<ByteList>, ConstraintFault>
-    ensures { Answers (λ texts. texts.items) result (ok_or (texts_of (items_view values.now)) (WrongType Forbid)) }
+    ensures { Answers (λ texts. texts.items) result
+        (ok_or (texts_of (items_view values.now)) (WrongType Forbid)) }
 {
     let mut texts = Vec::new(alloc);
     for value in values {
@@ -90,7 +91,8 @@ pub fn texts_of(alloc: Global, values: &[Value]) -> Result<Vec<ByteList>, Constr
 
 /// The edges of an array of tables.
 pub fn edges_of(alloc: Global, values: &[Value]) -> Result<Vec<ListedEdge>, ConstraintFault>
-    ensures { Answers (λ edges. edges.items) result (ok_or (edges_of (items_view values.now)) (WrongType Edges)) }
+    ensures { Answers (λ edges. edges.items) result
+        (ok_or (edges_of (items_view values.now)) (WrongType Edges)) }
 {
     let mut edges = Vec::new(alloc);
     for value in values {

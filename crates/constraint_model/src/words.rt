@@ -25,10 +25,10 @@ struct Front {
 
 /// Whether the word belongs to the constraint.
 ///
-/// A word with a symbol outside the alphabet does not. The test takes no memory. It goes over the word
-/// once for the symbols and the runs of 0s; where these are in order, once for each forbidden word,
-/// which it compares at each place; and, where there is a graph, once more, over all edges for each
-/// symbol (Marcus, Roth, Siegel, chapter 2: the subset construction).
+/// A word with a symbol outside the alphabet does not. The test takes no memory. It goes over the
+/// word once for the symbols and the runs of 0s; where these are in order, once for each forbidden
+/// word, which it compares at each place; and, where there is a graph, once more, over all edges
+/// for each symbol (Marcus, Roth, Siegel, chapter 2: the subset construction).
 pub fn has_word(constraint: &Constraint, word: &[u8]) -> bool
     ensures word { IsTrue result ↔ IsWordOf constraint.now word.now }
     ensures ranges { IsConstraint constraint.now }
@@ -57,7 +57,8 @@ fn longest_run(k: Option<u32>) -> usize
 ///
 /// Reads the word from its end, so that a 1 is compared with the run behind it.
 fn keeps_runs(limits: Limits, word: &[u8]) -> bool
-    ensures { IsTrue result ↔ IsWordOf (run_length limits.alphabet limits.d (Some limits.most)) word.now }
+    ensures { IsTrue result
+        ↔ IsWordOf (run_length limits.alphabet limits.d (Some limits.most)) word.now }
 {
     let mut front = Front { zeros: 0, least: 0 };
     for symbol in word.iter().rev() {
@@ -71,7 +72,8 @@ fn keeps_runs(limits: Limits, word: &[u8]) -> bool
 
 /// The front of the word with one more symbol before it; none where that is no word.
 ///
-/// The symbols of channel text are hard to predict, so it chooses values and does not branch on them.
+/// The symbols of channel text are hard to predict, so it chooses values and does not branch on
+/// them.
 #[inline(always)]
 fn extend(limits: Limits, front: Front, symbol: u8) -> Option<Front>
     requires { front.zeros + 1 < 2 ^ 64 }

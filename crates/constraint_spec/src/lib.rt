@@ -54,7 +54,8 @@ pub fn walks_pass_states()
 
 /// A word has one raw state, which is the value that goes on from symbol to symbol.
 pub fn raw_state_of_a_word()
-    ensures parts { (c : ConstraintData) (w : List ℕ) → IsConstraint c → IsRawStateOf c w (raw_state c w) }
+    ensures parts { (c : ConstraintData) (w : List ℕ) → IsConstraint c
+        → IsRawStateOf c w (raw_state c w) }
     ensures single { (c : ConstraintData) (w : List ℕ) (raw other : RawState)
         → IsRawStateOf c w raw → IsRawStateOf c w other → raw ≡ other }
 {}

@@ -1,8 +1,6 @@
 -- What a sink says of the steps that it is, and that they have one outcome.
-use Rattle.std.proofs.Common.{◌≡◌, ℕ, ◌<◌, ◌≤◌, List, [], length, map, Ok, Err, inl, inr, sym, ap, ◌∙◌, subst, arith}
-use Rattle.std.specs.Prelude.{Contains, slice_index}
-use Rattle.std.proofs.lemmas.Bool.{cases_lt}
-use Rattle.std.proofs.lemmas.List.{get_or_past}
+use Rattle.std.proofs.Common.{◌≡◌, ℕ, ◌<◌, ◌≤◌, List, length, map, Ok, Err, sym, ap, ◌∙◌, subst, arith}
+use Rattle.std.specs.Prelude.{slice_index}
 use Rattle.std.specs.List.{sum}
 use Rattle.label_graphs.specs.Graph.{EdgeData, IsGraph, HasEdge}
 use Rattle.label_graphs.specs.Sink.{AreEdgesAmong, spread}
@@ -19,18 +17,12 @@ use Rattle.command_steps.specs.Step.{IsSingle}
 use Rattle.command_steps.specs.Promise.{Decides}
 use Rattle.command_steps.proofs.StepLaws.{reads_value, reads_is_single, needs_is_single, needs_met, needs_unmet, then_is_single, gives_is_single, too_large_is_refusal}
 use Rattle.sink_part.specs.declared.parts.SinkGraph.{SinkGraph}
+use Rattle.sink_part.proofs.LinkRows.{source_of}
 use Rattle.design_steps.specs.Sinks.{SinkData, IsSinkOf, FindsSink, NeedsWeight, NeedsSpread, SinkOf}
 use Rattle.design_steps.specs.Chains.{weighted_sink}
 use Rattle.design_steps.specs.Views.{sink_data}
 
 -- ---- a power with weights has one sink
-
--- edges leave states of the graph
-source_of : (rows : List (List EdgeData)) (from block to : ℕ) → HasEdge rows from block to → from < length rows
-source_of rows from block to edge = elim (cases_lt from (length rows)) [
-  | inl inside ↦ inside
-  | inr outside ↦ absurd (let none = subst (λ (row : List EdgeData). Contains row (record { block = block; to = to })) (get_or_past rows from [] outside) edge in omega (arith, none.1))
-]
 
 edges_alike : (power : List (List EdgeData)) (states : List ℕ) (rows others : List (List EdgeData)) → IsGraph rows → length rows ≡ length states
     → AreEdgesAmong power states rows → AreEdgesAmong power states others → (from block to : ℕ) → HasEdge rows from block to → HasEdge others from block to

@@ -15,7 +15,7 @@ use Rattle.command_steps.specs.Step.{IsSingle}
 use Rattle.command_steps.specs.Promise.{Decides}
 use Rattle.command_steps.proofs.StepLaws.{reads_value, reads_fault, reads_is_single, no_vector_is_refusal}
 use Rattle.design_steps.specs.Vectors.{VectorData, IsLeastVector, HasNoVector, VectorOf}
-use Rattle.design_steps.specs.Views.{vector_data}
+use Rattle.design_steps.specs.inside.Beginning.{vector_data}
 use Rattle.design_steps.proofs.PowerLaws.{one_power}
 
 -- ---- the sums over a matrix that counts a graph's edges are those over its edges

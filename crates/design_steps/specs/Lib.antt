@@ -6,3 +6,4 @@ pub mod Powers
 pub mod Sinks
 pub mod Vectors
 pub mod Views
+pub mod inside

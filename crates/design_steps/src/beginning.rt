@@ -5,7 +5,8 @@ ghost use Rattle.split_spec.specs.Weighted.{IsWeighted};
 ghost use Rattle.command_steps.specs.Promise.{Decides};
 ghost use Rattle.design_steps.specs.Begun.{BeginsWith};
 ghost use Rattle.design_steps.specs.Chains.{weighted_sink};
-ghost use Rattle.design_steps.specs.Views.{begun_data, sink_data};
+ghost use Rattle.design_steps.specs.Views.{sink_data};
+ghost use Rattle.design_steps.specs.inside.Beginning.{begun_data};
 
 use crate::stages::{cover_of, memory_of, power_of, sink_of, vector_of};
 use command_steps::Status;
@@ -17,7 +18,7 @@ use symbol_base::CoverName;
 
 /// What a design begins with.
 #[derive(Debug, Drop)]
-pub struct Begun {
+pub(crate) struct Begun {
     /// The cover of the constraint.
     pub cover: Cover,
     /// How many last symbols tell the state of the cover.
@@ -32,10 +33,11 @@ pub struct Begun {
     pub sink: SinkGraph,
 }
 
-/// The beginning of a design with `p` data bits for each block of `q` symbols and weights up to `bound`
-/// (Adler, Coppersmith, Hassner 1983): every status that a design is refused with comes from here.
+/// The beginning of a design with `p` data bits for each block of `q` symbols and weights up to
+/// `bound` (Adler, Coppersmith, Hassner 1983): every status that a design is refused with comes
+/// from here.
 #[tactic(auto, using(command_steps::proofs::StepLaws::rows_alone, crate::proofs::VectorLaws::vector_is_nonzero), unfolding(crate::specs::Begun::BeginsWith))]
-pub fn begin(
+pub(crate) fn begin(
     alloc: Global,
     constraint: &Constraint,
     p: u32,
@@ -50,7 +52,8 @@ pub fn begin(
     requires bound_most { bound ≤ 64 }
     ensures step { Decides begun_data (BeginsWith constraint.now p q bound) result }
     ensures few { IfOk result (λ begun. edge_count begun.power ≤ 262144) }
-    ensures weighted { IfOk result (λ begun. IsWeighted (2 ^ p) (weighted_sink (sink_data begun.sink))) }
+    ensures weighted { IfOk result (λ begun.
+        IsWeighted (2 ^ p) (weighted_sink (sink_data begun.sink))) }
     ensures light { IfOk result (λ begun. sum begun.sink.weights ≤ 512) }
 {
     let cover = cover_of(alloc, constraint)?;

@@ -1,5 +1,5 @@
-//! The design of a code up to its last round of splitting: a row of steps, each with the status that it is
-//! refused with.
+//! The design of a code up to its last round of splitting: a row of steps, each with the status
+//! that it is refused with.
 #![tactic(auto)]
 
 mod beginning;
@@ -7,6 +7,5 @@ mod edges;
 mod splitting;
 mod stages;
 
-pub use beginning::{Begun, begin};
 pub use edges::count_edges;
 pub use splitting::{SplitDesign, split};

@@ -30,12 +30,13 @@ pub struct SplitDesign {
     pub bound: u32,
     /// The greatest approximate eigenvector within it.
     pub weights: Weights,
-    /// The sink of least total weight, the rounds that are made of it, and the states that are kept.
+    /// The sink of least total weight, the rounds that are made of it, and the states that are
+    /// kept.
     pub chain: Chain,
 }
 
-/// A design with `p` data bits for each block of `q` symbols and weights up to `bound`, up to its last round
-/// (Adler, Coppersmith, Hassner 1983). It is refused only for what it begins with.
+/// A design with `p` data bits for each block of `q` symbols and weights up to `bound`, up to its
+/// last round (Adler, Coppersmith, Hassner 1983). It is refused only for what it begins with.
 #[tactic(auto, using(command_steps::proofs::StepLaws::rows_alone), unfolding(crate::specs::Chains::SplitsInto))]
 pub fn split(
     alloc: Global,
@@ -52,7 +53,8 @@ pub fn split(
     requires bound_most { bound ≤ 64 }
     ensures step { Decides split_design_data (SplitsInto constraint.now p q bound) result }
     ensures few { IfOk result (λ design. edge_count design.power ≤ 262144) }
-    ensures splits { IfOk result (λ design. split_count design.chain.rounds.items + length design.chain.sink.graph ≤ 512) }
+    ensures splits { IfOk result (λ design.
+        split_count design.chain.rounds.items + length design.chain.sink.graph ≤ 512) }
 {
     let begun = begin(alloc, constraint, p, q, bound)?;
     let chain = chain_of(alloc, begun.sink, p)?;
@@ -75,7 +77,8 @@ fn chain_of(alloc: Global, sink: SinkGraph, p: u32) -> Result<Chain, Status>
     requires light { sum sink.weights ≤ 512 }
     ensures step { Decides chain_data (ChainOf (2 ^ p) (sink_data sink)) result }
     ensures sink { IfOk result (λ chain. chain.sink ≡ sink) }
-    ensures few { IfOk result (λ chain. split_count chain.rounds.items + length chain.sink.graph ≤ 512) }
+    ensures few { IfOk result (λ chain.
+        split_count chain.rounds.items + length chain.sink.graph ≤ 512) }
 {
     Ok(split_all(alloc, sink, p)?)
 }

@@ -11,7 +11,8 @@ ghost use Rattle.design_steps.specs.Powers.{PowerOf};
 ghost use Rattle.design_steps.specs.Vectors.{HasNoVector, IsLeastVector, VectorOf};
 ghost use Rattle.design_steps.specs.Sinks.{FindsSink, NeedsWeight, NeedsSpread, SinkOf};
 ghost use Rattle.design_steps.specs.Chains.{weighted_sink};
-ghost use Rattle.design_steps.specs.Views.{sink_data, vector_data};
+ghost use Rattle.design_steps.specs.Views.{sink_data};
+ghost use Rattle.design_steps.specs.inside.Beginning.{vector_data};
 
 use command_steps::{Limit, Status};
 use constraint_model::Constraint;
@@ -71,7 +72,8 @@ pub fn power_of(alloc: Global, cover: &Cover, q: u32) -> Result<Graph<CoverName>
     }
 }
 
-/// The least bound with an approximate eigenvector of the power of a cover, and the greatest within it.
+/// The least bound with an approximate eigenvector of the power of a cover, and the greatest within
+/// it.
 #[tactic(auto, using(crate::proofs::VectorLaws::vectors, command_steps::specs::Promise::memory_alone))]
 pub fn vector_of(
     alloc: Global,
@@ -113,7 +115,8 @@ fn least_vector(
     requires bound_one { 1 ≤ bound }
     requires bound_most { bound ≤ 64 }
     ensures least { (power : List (List EdgeData)) → IsPower cover.now q power
-        → IfOk result (λ found. IfSome found (λ vector. IsLeastVector power n bound (vector_data vector))) }
+        → IfOk result (λ found.
+        IfSome found (λ vector. IsLeastVector power n bound (vector_data vector))) }
     ensures none { (power : List (List EdgeData)) → IsPower cover.now q power
         → IfOk result (λ found. IfNone found (HasNoVector power n bound)) }
 {

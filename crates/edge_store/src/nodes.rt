@@ -10,7 +10,8 @@ use std::marker::Model;
 use symbol_base::NoMemory;
 
 // A chain of nodes. `head` leads to the first and `tail` to the last; with no node both dangle. It
-// has no `Drop`, so the check sees to it that every chain is joined to another, taken apart or ended.
+// has no `Drop`, so the check sees to it that every chain is joined to another, taken apart or
+// ended.
 pub(crate) struct Nodes<T> {
     head: *mut Node<T>,
     tail: *mut Node<T>,
@@ -103,7 +104,8 @@ impl<T> Nodes<T> {
     pub(crate) fn node(&self, at: Place<T>, i: u32) -> &Node<T>
         requires { (i < length self.now.items) × (at.ptr ≡ place_of self.now.links i) }
         ensures item { result.now.item ≡ slice_index_or self.now.items i result.now.item }
-        ensures next { i + 1 < length self.now.items → result.now.next.ptr ≡ place_of self.now.links (i + 1) }
+        ensures next { i + 1 < length self.now.items
+            → result.now.next.ptr ≡ place_of self.now.links (i + 1) }
     {
         unsafe { &*at.ptr }
     }

@@ -68,7 +68,8 @@ impl<T> RowList<T> {
         T: Drop,
         requires { length self.old < 2 ^ 32 - 1 }
         ensures items { self.new ≡ (if is_ok result then self.old ++ item ∷ [] else self.old) }
-        ensures count { length self.new ≡ (if is_ok result then length self.old + 1 else length self.old) }
+        ensures count { length self.new
+            ≡ (if is_ok result then length self.old + 1 else length self.old) }
         ensures returned { IfErr result (λ back. back ≡ item) }
     {
         // It will be the last node, so any place will do.
@@ -90,7 +91,8 @@ impl<T> RowList<T> {
 
     /// Takes the first item out. `None` where the list is empty.
     pub fn pop_front(&mut self) -> Option<T>
-        ensures { MatchOption result ((self.old ≡ []) × (self.new ≡ [])) (λ item. self.old ≡ item ∷ self.new) }
+        ensures { MatchOption result ((self.old ≡ []) × (self.new ≡ [])) (λ item.
+            self.old ≡ item ∷ self.new) }
     {
         if self.len == 0 {
             return None;
@@ -134,7 +136,8 @@ impl<T> RowList<T> {
 
     // Moves the first node to the one list or the other, by its mark.
     fn deal_first(&mut self, mark: bool, kept: &mut RowList<T>, handed: &mut RowList<T>)
-        requires { (self.old ≢ []) × (length kept.old + 1 < 2 ^ 32) × (length handed.old + 1 < 2 ^ 32) }
+        requires { (self.old ≢ []) × (length kept.old + 1 < 2 ^ 32)
+            × (length handed.old + 1 < 2 ^ 32) }
         ensures rest { self.new ≡ drop 1 self.old }
         ensures kept { kept.new ≡ (if not mark then kept.old ++ take 1 self.old else kept.old) }
         ensures handed { handed.new ≡ (if mark then handed.old ++ take 1 self.old else handed.old) }

@@ -4,11 +4,9 @@ use Rattle.std.specs.List.{sum}
 use Rattle.std.proofs.Math.Nat.{mul-le-mul_left}
 use Rattle.std.proofs.lemmas.Bool.{cases_lt}
 use Rattle.std.proofs.lemmas.List.{get_or_past}
-use Rattle.std.proofs.lemmas.List.Sums.{sum_by-cons, sum_by-set, get_or-le-sum_by}
+use Rattle.std.proofs.lemmas.List.Sums.{sum_by-set, get_or-le-sum_by}
+use Rattle.label_graphs.proofs.Sums.{sum-cons}
 use Rattle.label_graphs.specs.Vector.{product_sum, IsGreatest, IsVector, IsNonzero, IsLeastBound}
-
-pub sum-cons : (x : ℕ) (xs : List ℕ) → sum (x ∷ xs) ≡ x + sum xs
-sum-cons x xs = sum_by-cons (λ (n : ℕ). n) x xs
 
 -- where each number is the same
 pub product_of_one : (row : List ℕ) (w : ℕ) → product_sum row (replicate (length row) w) ≡ sum row * w

@@ -13,7 +13,8 @@ use symbol_base::NoMemory;
 /// may be all 0 (Marcus, Roth, Siegel, chapter 5: Franaszek's algorithm).
 ///
 /// Begins with `bound` everywhere, and lowers a number whose sum is too small to what the sum
-/// allows, as long as there is one. For s states that is at most s `bound` times, each in 2 s steps.
+/// allows, as long as there is one. For s states that is at most s `bound` times, each in 2 s
+/// steps.
 pub fn greatest(alloc: Global, matrix: &Matrix, n: u64, bound: u32) -> Result<Weights, NoMemory>
     requires two { 2 ≤ n }
     requires most { n ≤ 256 }
@@ -34,7 +35,8 @@ pub fn greatest(alloc: Global, matrix: &Matrix, n: u64, bound: u32) -> Result<We
 fn first_sums(alloc: Global, matrix: &Matrix, bound: u32) -> Result<Vec<u64>, NoMemory>
     requires bound { bound ≤ 64 }
     requires small { All (λ row. sum row ≤ 2 ^ 40) matrix.now }
-    ensures { IfOk result (λ sums. AreRowSums matrix.now (replicate (length matrix.now) bound) sums.items) }
+    ensures { IfOk result (λ sums.
+        AreRowSums matrix.now (replicate (length matrix.now) bound) sums.items) }
 {
     let states = matrix.size();
     let mut sums = Vec::with_capacity(alloc, states as usize)?;
@@ -98,7 +100,8 @@ fn lower_sums(matrix: &Matrix, state: u32, fall: u32, sums: &mut [u64])
         → entry_at matrix.now from state * fall ≤ slice_index sums.old from }
     ensures size { length sums.new ≡ length matrix.now }
     ensures each { (from : ℕ) → from < length matrix.now
-        → slice_index sums.new from + entry_at matrix.now from state * fall ≡ slice_index sums.old from }
+        → slice_index sums.new from + entry_at matrix.now from state * fall
+        ≡ slice_index sums.old from }
 {
     for from in 0..matrix.size() {
         sums[from as usize] -= matrix.entry(from, state) * u64::from(fall);

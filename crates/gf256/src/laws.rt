@@ -1,5 +1,5 @@
-//! The laws of the field, each a function with an empty body whose contract is the law. A law with no
-//! premise holds of all numbers, since a product is always an element.
+//! The laws of the field, each a function with an empty body whose contract is the law. A law with
+//! no premise holds of all numbers, since a product is always an element.
 
 ghost use Rattle.std.specs.Prelude.{◌≡◌, ◌≢◌, ℕ, suc, ◌+◌, ◌*◌, ◌<◌, ◌⊎◌};
 ghost use Rattle.gf256.specs.Field.{IsElement, IsProduct, alpha, inverse, plus, power, times};
@@ -25,7 +25,8 @@ pub fn product_laws()
     ensures closed { (a b : ℕ) → IsElement (times a b) }
     ensures inverse { (a : ℕ) → IsElement a → a ≢ 0 → times a (inverse a) ≡ 1 }
     ensures single_inverse { (a b : ℕ) → IsElement a → IsElement b → times a b ≡ 1 → b ≡ inverse a }
-    ensures no_zero_divisors { (a b : ℕ) → IsElement a → IsElement b → times a b ≡ 0 → (a ≡ 0) ⊎ (b ≡ 0) }
+    ensures no_zero_divisors { (a b : ℕ) → IsElement a → IsElement b → times a b ≡ 0
+        → (a ≡ 0) ⊎ (b ≡ 0) }
 {}
 
 /// The laws of powers.

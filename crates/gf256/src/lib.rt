@@ -54,8 +54,8 @@ impl Gf {
         }
     }
 
-    /// The product again, by doublings and sums alone: a loop over many products makes sixteen of these at
-    /// a time, where it looks each other one up by itself.
+    /// The product again, by doublings and sums alone: a loop over many products makes sixteen of
+    /// these at a time, where it looks each other one up by itself.
     pub fn mul_by_doubling(self, other: Gf) -> Gf
         ensures product { IsProduct self.value other.value result.value }
         ensures value { result.value ≡ times self.value other.value }

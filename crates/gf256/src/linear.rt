@@ -42,8 +42,8 @@ fn find_pivot<const WIDTH: usize>(rows: &[[Gf; WIDTH]], column: usize) -> Option
     None
 }
 
-/// Takes the multiple of the row at the place of the column out of each other row that leaves a 0 in
-/// the column, where the row has a 1.
+/// Takes the multiple of the row at the place of the column out of each other row that leaves a 0
+/// in the column, where the row has a 1.
 fn clear_others<const WIDTH: usize>(rows: &mut [[Gf; WIDTH]], column: usize)
     requires inside { column < WIDTH }
     requires below { column < length rows.old }
@@ -58,7 +58,8 @@ fn clear_others<const WIDTH: usize>(rows: &mut [[Gf; WIDTH]], column: usize)
     }
 }
 
-/// Turns the column into a unit column by the row of the pivot, which comes to the place of the column.
+/// Turns the column into a unit column by the row of the pivot, which comes to the place of the
+/// column.
 fn eliminate<const WIDTH: usize>(rows: &mut [[Gf; WIDTH]], column: usize, pivot: usize)
     requires inside { column < WIDTH }
     requires from { column ≤ pivot }
@@ -72,8 +73,8 @@ fn eliminate<const WIDTH: usize>(rows: &mut [[Gf; WIDTH]], column: usize, pivot:
     clear_others(rows, column);
 }
 
-/// Turns the leading columns into unit columns, as many as there are rows, and stops before the first
-/// that is 0 from the row of its number on. Answers how many became unit columns.
+/// Turns the leading columns into unit columns, as many as there are rows, and stops before the
+/// first that is 0 from the row of its number on. Answers how many became unit columns.
 fn reduce<const WIDTH: usize>(rows: &mut [[Gf; WIDTH]]) -> usize
     requires { length rows.old < WIDTH }
     ensures count { result ≤ length rows.old }
@@ -103,9 +104,9 @@ fn copy_column<const WIDTH: usize>(rows: &[[Gf; WIDTH]], column: usize, vector: 
     }
 }
 
-/// A vector that the first `t` rows annihilate: not all of its entries are 0, but those past place `t`
-/// are. There is one, since `t` rows leave `t + 1` columns dependent. `t` is 1 to 16. The rows are used
-/// up as room: what they hold afterwards is left open.
+/// A vector that the first `t` rows annihilate: not all of its entries are 0, but those past place
+/// `t` are. There is one, since `t` rows leave `t + 1` columns dependent. `t` is 1 to 16. The rows
+/// are used up as room: what they hold afterwards is left open.
 pub fn null_vector(rows: &mut [[Gf; 17]; 16], t: u32) -> [Gf; 17]
     requires positive { 1 ≤ t }
     requires fits { t ≤ 16 }

@@ -2,8 +2,8 @@
 
 ghost use Rattle.std.specs.Prelude.{◌≡◌, ◌<◌, slice_index};
 
-/// The logarithm of each element to the base alpha. 0 has none: its entry, 510, is above every sum of
-/// two others, so that a product needs no test for 0.
+/// The logarithm of each element to the base alpha. 0 has none: its entry, 510, is above every sum
+/// of two others, so that a product needs no test for 0.
 static LOGARITHMS: [u16; 256] = [
     510, 0, 1, 25, 2, 50, 26, 198, 3, 223, 51, 238, 27, 104, 199, 75, 4, 100, 224, 14, 52, 141,
     239, 129, 28, 193, 105, 248, 200, 8, 76, 113, 5, 138, 101, 47, 225, 36, 15, 33, 53, 147, 142,

@@ -6,14 +6,12 @@ use Rattle.std.proofs.Math.Nat.{pow-zero, pow-suc, pow-le-pow_left, pow-le-pow_r
 use Rattle.std.proofs.lemmas.Bool.{cases_lt}
 use Rattle.std.proofs.lemmas.List.{map-append, get_or_past}
 use Rattle.std.proofs.lemmas.List.Elements.{Contains-append_right}
-use Rattle.std.proofs.lemmas.List.Sums.{sum_by-cons, sum_by-append}
+use Rattle.std.proofs.lemmas.List.Sums.{sum_by-append}
 use Rattle.symbol_base.specs.Ascending.{IsAscending}
 use Rattle.label_graphs.specs.Graph.{EdgeData, IsEdgeBefore, HasEdge, IsGraph}
 use Rattle.label_graphs.specs.Cover.{CoverData, KeepsSymbols}
+use Rattle.label_graphs.proofs.Sums.{sum-cons}
 use Rattle.graph_power.specs.inside.Words.{target_total, word_count, words_to}
-
-pub sum-cons : (x : ℕ) (xs : List ℕ) → sum (x ∷ xs) ≡ x + sum xs
-sum-cons x xs = sum_by-cons (λ (n : ℕ). n) x xs
 
 pub total-cons : (f : ℕ → ℕ) (e : EdgeData) (row : List EdgeData) → target_total f (e ∷ row) ≡ f e.to + target_total f row
 total-cons f e row = sum-cons (f e.to) (map (λ (e : EdgeData). f e.to) row)

@@ -13,9 +13,9 @@ use Rattle.label_graphs.specs.Cover.{CoverData, KeepsSymbols}
 use Rattle.label_graphs.specs.Power.{IsPower, edge_count, HasPowerEdges}
 use Rattle.label_graphs.specs.Matrix.{CountsEdges, CountsWords}
 use Rattle.label_graphs.specs.Vector.{product_sum, target_sum}
-use Rattle.label_graphs.proofs.Sums.{counts_add_up}
+use Rattle.label_graphs.proofs.Sums.{counts_add_up, sum-cons}
 use Rattle.graph_power.specs.inside.Words.{AreCounts, AreWordCounts, power_rows, word_count, words_from}
-use Rattle.graph_power.proofs.Totals.{sum-cons, word_count_le, power_le}
+use Rattle.graph_power.proofs.Totals.{word_count_le, power_le}
 use Rattle.graph_power.proofs.Listed.{listed, lists, walk_inside, words_counted, words_to_counted}
 use Rattle.graph_power.proofs.Ordered.{words_ascend}
 

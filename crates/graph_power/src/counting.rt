@@ -86,7 +86,8 @@ fn added_rows(
 /// Adds to each number the one at the same place.
 fn add(sums: &mut [u64], more: &[u64])
     requires size { length sums.old ≡ length more.now }
-    requires fits { (k : ℕ) → k < length sums.old → slice_index sums.old k + slice_index more.now k < 2 ^ 64 }
+    requires fits { (k : ℕ) → k < length sums.old
+        → slice_index sums.old k + slice_index more.now k < 2 ^ 64 }
     ensures size { length sums.new ≡ length sums.old }
     ensures each { (k : ℕ) → k < length sums.old
         → slice_index sums.new k ≡ slice_index sums.old k + slice_index more.now k }

@@ -49,7 +49,8 @@ fn total(counts: &[u64]) -> u64
 /// For each number of symbols up to `q` how many words of so many can be read from each state.
 fn word_counts(alloc: Global, cover: &Cover, q: u32) -> Result<Vec<Vec<u64>>, NoMemory>
     requires { q ≤ 20 }
-    ensures counts { IfOk result (λ counts. AreCountedTo cover.now.graph q (matrix_data counts.items)) }
+    ensures counts { IfOk result (λ counts.
+        AreCountedTo cover.now.graph q (matrix_data counts.items)) }
     ensures symbols { IfOk result (λ _. KeepsSymbols cover.now) }
     ensures graph { IfOk result (λ _. IsGraph cover.now.graph) }
 {
@@ -83,7 +84,9 @@ fn sum_at_targets(edges: &[Edge<CoverName>], counts: &[u64]) -> u64
     requires few { length edges.now ≤ 4 }
     requires inside { All (λ edge. edge.to < length counts.now) edges.now }
     requires small { All (λ count. count ≤ 2 ^ 38) counts.now }
-    ensures { result ≡ target_total (λ to. slice_index counts.now to) (map (edge_data (λ name. name)) edges.now) }
+    ensures { result
+        ≡ target_total (λ to. slice_index counts.now to)
+        (map (edge_data (λ name. name)) edges.now) }
 {
     let mut sum = 0;
     for edge in edges {
@@ -126,7 +129,8 @@ fn listed_row(
     requires counted { AreCountedTo cover.now.graph q (matrix_data counts.now) }
     requires inside { state < length cover.now.graph }
     requires four { cover.now.alphabet ≤ 4 }
-    ensures { IfOk result (λ row. map (edge_data (λ name. name)) row.items ≡ words_from cover.now q 0 state) }
+    ensures { IfOk result (λ row.
+        map (edge_data (λ name. name)) row.items ≡ words_from cover.now q 0 state) }
 {
     let mut row = Vec::with_capacity(alloc, many)?;
     let start = Edge {
@@ -148,7 +152,8 @@ fn read_on(
     row: &mut Vec<Edge<CoverName>>,
 ) -> Result<(), NoMemory>
     requires inside { read.to < length cover.now.graph }
-    requires counted { (i : ℕ) → i < left → AreWordCounts cover.now.graph i (slice_index_or (matrix_data counts.now) i []) }
+    requires counted { (i : ℕ) → i < left
+        → AreWordCounts cover.now.graph i (slice_index_or (matrix_data counts.now) i []) }
     requires levels { left ≤ length counts.now }
     requires fits { (read.block.value + 1) * cover.now.alphabet ^ left ≤ 2 ^ 40 }
     ensures { IfOk result (λ _. map (edge_data (λ name. name)) row.new.items

@@ -24,7 +24,8 @@ fn cover_of(rows: Vec<Vec<Edge<CoverName>>>) -> Cover
     requires some { 1 ≤ length rows.items }
     requires few { length rows.items ≤ 256 }
     requires symbols { All (All (λ e. e.block < 2)) (rows_data (λ name. name) rows.items) }
-    requires single { All (IsAscending (λ e f. e.block < f.block)) (rows_data (λ name. name) rows.items) }
+    requires single { All (IsAscending (λ e f. e.block < f.block))
+        (rows_data (λ name. name) rows.items) }
 {
     Cover {
         graph: Graph::from_rows(rows),

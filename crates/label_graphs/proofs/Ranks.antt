@@ -1,9 +1,9 @@
 -- The new numbers of states that pass a test: they ascend, and each has its place.
-use Rattle.std.proofs.Common.{◌≡◌, ℕ, zero, suc, ◌+◌, ◌-◌, ◌<◌, ◌≤◌, List, [], ◌∷◌, ◌++◌, length, get_or, Bool, true, false, cond, inl, inr, ap, sym, ◌∙◌, subst, arith, length-append, append-nil, add-one}
+use Rattle.std.proofs.Common.{◌≡◌, ℕ, zero, suc, ◌+◌, ◌-◌, ◌<◌, ◌≤◌, List, [], ◌∷◌, ◌++◌, length, get_or, map, Bool, true, false, cond, inl, inr, ap, sym, ◌∙◌, subst, arith, length-append, append-nil, add-one}
 use Rattle.std.specs.Prelude.{filter}
 use Rattle.std.specs.List.{range_with_len}
 use Rattle.std.proofs.lemmas.Bool.{cases_lt, cases_Bool}
-use Rattle.std.proofs.lemmas.List.{get_or_append_left, get_or_push, map-id}
+use Rattle.std.proofs.lemmas.List.{get_or_append_left, get_or_push, map-append, map-id}
 use Rattle.std.proofs.lemmas.List.FromFn.{filter_of_map_range_with_len_more}
 use Rattle.label_graphs.specs.inside.Numbers.{passing, rank, AreRanks}
 
@@ -23,6 +23,18 @@ passing_more test n passes = passing_next test n ∙ ap (λ b. passing test n ++
 pub passing_same : (test : ℕ → Bool) (n : ℕ) → test n ≡ false → passing test (n + 1) ≡ passing test n
 passing_same test n fails =
     passing_next test n ∙ ap (λ b. passing test n ++ cond b (n ∷ []) []) fails ∙ append-nil (passing test n)
+
+-- one more state that passes is named
+pub named_more : {N : Type 0} (number : N → ℕ) (test : ℕ → Bool) (n : ℕ) (names more : List N) (name : N) → map number names ≡ passing test n
+    → number name ≡ n → test n ≡ true → more ≡ names ++ name ∷ [] → map number more ≡ passing test (n + 1)
+named_more number test n names more name known is passes joined =
+    ap (map number) joined ∙ map-append number names (name ∷ []) ∙ ap (λ (k : ℕ). map number names ++ k ∷ []) is
+    ∙ ap (λ (xs : List ℕ). xs ++ n ∷ []) known ∙ sym (passing_more test n passes)
+
+-- and one that fails is not
+pub named_same : {N : Type 0} (number : N → ℕ) (test : ℕ → Bool) (n : ℕ) (names more : List N) → map number names ≡ passing test n → test n ≡ false
+    → more ≡ names → map number more ≡ passing test (n + 1)
+named_same number test n names more known fails same = ap (map number) same ∙ known ∙ sym (passing_same test n fails)
 
 pub rank_more : (test : ℕ → Bool) (n : ℕ) → test n ≡ true → rank test (n + 1) ≡ rank test n + 1
 rank_more test n passes = ap (λ (xs : List ℕ). length xs) (passing_more test n passes) ∙ length-append (passing test n) (n ∷ [])

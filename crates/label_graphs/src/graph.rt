@@ -1,9 +1,10 @@
-ghost use Rattle.std.specs.Prelude.{◌≡◌, ◌<◌, length, map, slice_index_or, []};
+ghost use Rattle.std.specs.Prelude.{◌≡◌, ◌<◌, IfOk, length, map, slice_index_or, []};
 ghost use Rattle.label_graphs.specs.Graph.{IsGraph};
 ghost use Rattle.label_graphs.specs.Views.{edge_data, rows_data};
 
+use std::alloc::Global;
 use std::marker::Model;
-use symbol_base::{Block, CoverName, Name};
+use symbol_base::{Block, CoverName, Name, NoMemory};
 
 /// An edge of a graph: the block that it carries and the state that it leads to.
 #[derive(Clone, Copy, Debug)]
@@ -52,11 +53,42 @@ impl<N: Name> Graph<N> {
     /// The edges that leave a state.
     pub fn row(&self, at: N) -> &[Edge<N>]
         requires { N.number at < length self.now }
-        ensures edges { map (edge_data (N.number)) result.now ≡ slice_index_or self.now (N.number at) [] }
+        ensures edges { map (edge_data (N.number)) result.now
+            ≡ slice_index_or self.now (N.number at) [] }
         ensures kept { IsGraph self.now }
     {
         &self.rows[at.index() as usize]
     }
+
+    /// The same graph, in which names of type `M` stand for the states.
+    pub fn renamed<M: Name>(&self, alloc: Global) -> Result<Graph<M>, NoMemory>
+        ensures same { IfOk result (λ renamed. renamed ≡ self.now) }
+        ensures kept { IsGraph self.now }
+    {
+        let mut rows = Vec::with_capacity(alloc, self.rows.len())?;
+        for row in &self.rows {
+            rows.push(renamed_edges(alloc, row)?)?;
+        }
+        Ok(Graph::from_rows(rows))
+    }
+}
+
+/// The same edges, in which names of type `M` stand for the states.
+fn renamed_edges<N: Name, M: Name>(
+    alloc: Global,
+    edges: &[Edge<N>],
+) -> Result<Vec<Edge<M>>, NoMemory>
+    ensures { IfOk result (λ renamed. map (edge_data (M.number)) renamed.items
+        ≡ map (edge_data (N.number)) edges.now) }
+{
+    let mut renamed = Vec::with_capacity(alloc, edges.len())?;
+    for edge in edges {
+        renamed.push(Edge {
+            block: edge.block,
+            to: M::at(edge.to.index()),
+        })?;
+    }
+    Ok(renamed)
 }
 
 /// The cover of a constraint: the deterministic graph with the fewest states whose walks from

@@ -1,6 +1,6 @@
 ghost use Rattle.std.specs.Prelude.{◌≡◌, ◌<◌, ◌≤◌, ◌^◌, All, IfOk, length, map};
 ghost use Rattle.label_graphs.specs.Graph.{IsGraph};
-ghost use Rattle.label_graphs.specs.Kept.{IsKept};
+ghost use Rattle.label_graphs.specs.Kept.{IsKept, marked_states};
 ghost use Rattle.label_graphs.specs.Power.{edge_count};
 ghost use Rattle.label_graphs.specs.Views.{edge_data};
 ghost use Rattle.label_graphs.specs.inside.Numbers.{AreRanks, is_marked, renumbered};
@@ -30,10 +30,25 @@ pub fn keep<N: Name>(alloc: Global, graph: &Graph<N>, marks: &[bool]) -> Result<
     Ok(Graph::from_rows(rows))
 }
 
+/// The names of the marked states, in ascending order.
+pub fn marked_names<N: Name>(alloc: Global, marks: &[bool]) -> Result<Vec<N>, NoMemory>
+    requires { length marks.now < 2 ^ 32 }
+    ensures { IfOk result (λ names. map (N.number) names.items ≡ marked_states marks.now) }
+{
+    let mut names = Vec::new(alloc);
+    for (state, mark) in marks.iter().enumerate() {
+        if *mark {
+            names.push(N::at(state as u32))?;
+        }
+    }
+    Ok(names)
+}
+
 /// The new number of each state: how many states below it are marked.
 fn new_numbers(alloc: Global, marks: &[bool]) -> Result<Vec<u32>, NoMemory>
     requires { length marks.now < 2 ^ 32 }
-    ensures { IfOk result (λ numbers. AreRanks (is_marked marks.now) (length marks.now) numbers.items) }
+    ensures { IfOk result (λ numbers.
+        AreRanks (is_marked marks.now) (length marks.now) numbers.items) }
 {
     let mut numbers = Vec::with_capacity(alloc, marks.len())?;
     let mut next = 0;

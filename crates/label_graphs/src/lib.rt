@@ -19,7 +19,7 @@ mod refinement;
 mod weights;
 
 pub use graph::{Cover, Edge, Graph};
-pub use kept::keep;
+pub use kept::{keep, marked_names};
 pub use matrix::Matrix;
 pub use reached::reach;
 pub use refinement::{Refinement, compose};
@@ -28,7 +28,8 @@ pub use weights::Weights;
 /// Words have one cover: two of the same words have the same states and the same edges.
 pub fn words_have_one_cover()
     ensures { (is_word : List ℕ → Bool) (rows others : List (List EdgeData))
-        → IsCoverOf (λ word. is_word word ≡ true) rows → IsCoverOf (λ word. is_word word ≡ true) others
+        → IsCoverOf (λ word. is_word word ≡ true) rows
+        → IsCoverOf (λ word. is_word word ≡ true) others
         → (length rows ≡ length others)
         × ((from symbol to : ℕ) → HasEdge rows from symbol to ↔ HasEdge others from symbol to) }
 {}

@@ -52,10 +52,11 @@ impl<F: Name, C: Name> Refinement<F, C> {
     }
 }
 
-/// The refinement of the coarsest graph by the finest, where one graph is refined twice: the parent of
-/// each fine state is the parent under `coarse` of its parent under `fine`.
+/// The refinement of the coarsest graph by the finest, where one graph is refined twice: the parent
+/// of each fine state is the parent under `coarse` of its parent under `fine`.
 ///
-/// What is composed keeps the edges, as both refinements do; but where both divide edges, the composed one need not.
+/// What is composed keeps the edges, as both refinements do; but where both divide edges, the
+/// composed one need not.
 pub fn compose<A: Name, B: Name, C: Name>(
     alloc: Global,
     fine: &Refinement<A, B>,

@@ -1,6 +1,6 @@
 ghost use Rattle.std.specs.Prelude.{◌≡◌};
 
-use crate::{Edge, Graph, Matrix, Refinement, Weights, compose, keep, reach};
+use crate::{Edge, Graph, Matrix, Refinement, Weights, compose, keep, marked_names, reach};
 use std::alloc::Global;
 use std::process::Abort;
 use symbol_base::{Block, CodeName, CoverName, Name, NoMemory, SplitName};
@@ -24,10 +24,10 @@ fn two_ways(alloc: Global) -> Result<Graph<SplitName>, NoMemory> {
     Ok(Graph::from_rows(vec![in alloc; root, looped, there, back, above]?))
 }
 
-fn edges_of(alloc: Global, graph: &Graph<SplitName>) -> Result<Vec<(u32, u64, u32)>, NoMemory> {
+fn edges_of<N: Name>(alloc: Global, graph: &Graph<N>) -> Result<Vec<(u32, u64, u32)>, NoMemory> {
     let mut edges = Vec::new(alloc);
     for from in 0..graph.states() {
-        for edge in graph.row(SplitName::at(from)) {
+        for edge in graph.row(N::at(from)) {
             edges.push((from, edge.block.value, edge.to.index()))?;
         }
     }
@@ -103,6 +103,34 @@ fn kept_states_are_numbered_in_order(rt: HostRuntime) -> Result<(), NoMemory> {
         &[(0, 0, 0), (2, 2, 2)],
     )?;
     assert_kept(&rt, alloc, &[false, false, false, false, false], 0, &[])?;
+    Ok(())
+}
+
+#[test]
+fn marked_states_are_named_in_order(rt: HostRuntime) -> Result<(), NoMemory> {
+    let alloc = rt.alloc();
+    let names: Vec<CoverName> = marked_names(alloc, &[false, true, true, false, true])?;
+    let expected = [CoverName::at(1), CoverName::at(2), CoverName::at(4)];
+    assert_eq!(rt; names.as_slice(), expected.as_slice());
+    Ok(())
+}
+
+#[test]
+fn a_renamed_graph_has_the_same_edges(rt: HostRuntime) -> Result<(), NoMemory> {
+    let alloc = rt.alloc();
+    let renamed: Graph<CodeName> = two_ways(alloc)?.renamed(alloc)?;
+    let expected = [
+        (0, 0, 1),
+        (0, 1, 2),
+        (1, 0, 1),
+        (2, 0, 3),
+        (3, 1, 2),
+        (4, 0, 0),
+        (4, 2, 4),
+    ];
+    let edges = edges_of(alloc, &renamed)?;
+    assert_eq!(rt; renamed.states(), 5);
+    assert_eq!(rt; edges.as_slice(), expected.as_slice());
     Ok(())
 }
 

@@ -81,7 +81,8 @@ fn take_arcs<G: ImplicitGraph>(
 fn take_arc(arc: Arc, at: usize, marks: &mut [bool], found: &mut Vec<Found>) -> Result<(), NoMemory>
     requires inside { arc.to < length marks.old }
     ensures sized { length marks.new ≡ length marks.old }
-    ensures taken { IfOk result (λ _. IsTaken arc at found.old.items marks.old found.new.items marks.new) }
+    ensures taken { IfOk result (λ _.
+        IsTaken arc at found.old.items marks.old found.new.items marks.new) }
 {
     if marks[arc.to] {
         return Ok(());

@@ -16,7 +16,8 @@ pub fn layers_to<G: PairGraph>(
     ahead: usize,
     last: usize,
 ) -> Result<Vec<NodeSet>, NoMemory>
-    ensures layers { IfOk result (λ layers. AreLayers (G.graph graph.now) (G.words graph.now) ahead (last + 1) layers.items) }
+    ensures layers { IfOk result (λ layers.
+        AreLayers (G.graph graph.now) (G.words graph.now) ahead (last + 1) layers.items) }
 {
     let mut layers = Vec::new(alloc);
     layers.push(graph.targets(alloc)?)?;
@@ -38,7 +39,8 @@ fn next_layer<G: PairGraph>(
     left: usize,
     layers: &[NodeSet],
 ) -> Result<NodeSet, NoMemory>
-    requires layers { AreLayers (G.graph graph.now) (G.words graph.now) ahead (left + 1) layers.now }
+    requires layers { AreLayers (G.graph graph.now) (G.words graph.now) ahead (left + 1)
+        layers.now }
     ensures layer { IfOk result (IsLayer (G.graph graph.now) (G.words graph.now) ahead (left + 1)) }
 {
     let layer = &layers[left];
@@ -55,7 +57,8 @@ fn next_layer<G: PairGraph>(
 /// Which arcs may stand before walks of `left` arcs: the label with `ahead` labels behind it has
 /// unlike words.
 fn arcs_before(ahead: usize, left: usize) -> Arcs
-    ensures meant { (words label : ℕ) → IsMeant result words label ↔ (left ≡ ahead → HasUnlikeWords words label) }
+    ensures meant { (words label : ℕ)
+        → IsMeant result words label ↔ (left ≡ ahead → HasUnlikeWords words label) }
 {
     if left == ahead {
         Arcs::Unlike
@@ -74,7 +77,8 @@ fn preceding<G: PairGraph>(
 ) -> Result<NodeSet, NoMemory>
     requires candidates { (G.graph graph.now).nodes ≤ length candidates.now }
     requires room { (G.graph graph.now).nodes ≤ length layer.now }
-    ensures found { IfOk result (IsPreceding (G.graph graph.now) (G.words graph.now) arcs candidates.now layer.now
+    ensures found { IfOk result
+        (IsPreceding (G.graph graph.now) (G.words graph.now) arcs candidates.now layer.now
         (G.graph graph.now).nodes) }
 {
     let count = graph.node_count();
@@ -101,7 +105,8 @@ pub fn first_start<G: PairGraph>(
 ) -> Option<usize>
     requires layer { IsLayer (G.graph graph.now) (G.words graph.now) ahead last layer.now }
     ensures inside { IfSome result (λ start. start < (G.graph graph.now).nodes) }
-    ensures walk { IfSome result (HasUnlikeWalk (G.graph graph.now) (G.words graph.now) ahead (last + 1)) }
+    ensures walk { IfSome result
+        (HasUnlikeWalk (G.graph graph.now) (G.words graph.now) ahead (last + 1)) }
     ensures first { IfSome result (λ start. (v : ℕ) → v < start
         → HasUnlikeWalk (G.graph graph.now) (G.words graph.now) ahead (last + 1) v → ⊥) }
     ensures none { IfNone result ((v : ℕ) → v < (G.graph graph.now).nodes

@@ -58,8 +58,8 @@ impl NodeSet {
         set_bit(&mut self.bytes, node as u64, true);
     }
 
-    /// The first node of the set from this one on, below the end; where there is none, a number that
-    /// isn't below it.
+    /// The first node of the set from this one on, below the end; where there is none, a number
+    /// that isn't below it.
     ///
     /// Passes over eight nodes at once where none of them is in the set.
     pub fn first_from(&self, from: usize, end: usize) -> usize

@@ -15,9 +15,9 @@ use symbol_base::NoMemory;
 /// and of those from that node it is the smallest at the first difference.
 ///
 /// Goes from the end of the walks to their start, and keeps for each length the nodes from which a
-/// walk of it begins: a bit for each of `past + 1 + ahead` lengths and each node. For a length it asks
-/// at most once a node where its arcs lead, and for the lengths up to `ahead` alone the nodes that the
-/// length before has left over.
+/// walk of it begins: a bit for each of `past + 1 + ahead` lengths and each node. For a length it
+/// asks at most once a node where its arcs lead, and for the lengths up to `ahead` alone the nodes
+/// that the length before has left over.
 pub fn least_unlike_walk<G: PairGraph>(
     alloc: Global,
     graph: &G,
@@ -26,14 +26,15 @@ pub fn least_unlike_walk<G: PairGraph>(
 ) -> Result<Option<(usize, Vec<u32>)>, NoMemory>
     ensures least { IfOk result (λ answer. IfSome answer (λ found.
         IsLeastUnlikeWalk (G.graph graph.now) (G.words graph.now) past ahead found.0 found.1.items)) }
-    ensures none { IfOk result (λ answer. IfNone answer ((v : ℕ) (labels : List ℕ) → v < (G.graph graph.now).nodes
+    ensures none { IfOk result (λ answer.
+        IfNone answer ((v : ℕ) (labels : List ℕ) → v < (G.graph graph.now).nodes
         → IsUnlikeWalk (G.graph graph.now) (G.words graph.now) past ahead v labels → ⊥)) }
 {
     least_of_length(alloc, graph, ahead as usize, past as usize + ahead as usize)
 }
 
-/// The least walk of `last` arcs and one, from the first node that has one, whose label with `ahead`
-/// labels behind it has unlike words.
+/// The least walk of `last` arcs and one, from the first node that has one, whose label with
+/// `ahead` labels behind it has unlike words.
 fn least_of_length<G: PairGraph>(
     alloc: Global,
     graph: &G,
@@ -61,9 +62,11 @@ fn choose<G: PairGraph>(
     layers: &[NodeSet],
     start: usize,
 ) -> Result<Vec<u32>, NoMemory>
-    requires layers { AreLayers (G.graph graph.now) (G.words graph.now) ahead (length layers.now) layers.now }
+    requires layers { AreLayers (G.graph graph.now) (G.words graph.now) ahead (length layers.now)
+        layers.now }
     requires start { start < (G.graph graph.now).nodes }
-    requires begins { HasUnlikeWalk (G.graph graph.now) (G.words graph.now) ahead (length layers.now) start }
+    requires begins { HasUnlikeWalk (G.graph graph.now) (G.words graph.now) ahead
+        (length layers.now) start }
     ensures least { IfOk result (λ labels.
         IsLeastFrom (G.graph graph.now) (G.words graph.now) ahead (length layers.now) start labels.items) }
 {
@@ -91,7 +94,8 @@ fn next_arc<G: PairGraph>(
     requires layer { IsLayer (G.graph graph.now) (G.words graph.now) ahead left layer.now }
     requires at { at < (G.graph graph.now).nodes }
     requires begins { HasUnlikeWalk (G.graph graph.now) (G.words graph.now) ahead (left + 1) at }
-    ensures first { IfOk result (λ arc. IsFirstUsable (G.words graph.now) ahead left layer.now room.new.items arc) }
+    ensures first { IfOk result (λ arc.
+        IsFirstUsable (G.words graph.now) ahead left layer.now room.new.items arc) }
     ensures arcs { IfOk result (λ _. AreArcsOf (G.graph graph.now) at room.new.items) }
 {
     graph.arcs_of(at, room)?;
@@ -103,10 +107,13 @@ fn next_arc<G: PairGraph>(
 
 /// The first of the arcs with which a walk can begin.
 fn first_arc(arcs: &[Arc], words: u32, ahead: usize, left: usize, layer: &NodeSet) -> Option<Arc>
-    requires inside { (k : ℕ) → k < length arcs.now → (get_or arcs.now k no_arc).to < length layer.now }
+    requires inside { (k : ℕ) → k < length arcs.now
+        → (get_or arcs.now k no_arc).to < length layer.now }
     requires words { 0 < words }
     ensures some { IfSome result (λ arc. IsFirstUsable words ahead left layer.now arcs.now arc) }
-    ensures none { IfNone result ((m : ℕ) → m < length arcs.now → IsUsable words ahead left layer.now (get_or arcs.now m no_arc) → ⊥) }
+    ensures none { IfNone result
+        ((m : ℕ) → m < length arcs.now
+        → IsUsable words ahead left layer.now (get_or arcs.now m no_arc) → ⊥) }
 {
     for k in 0..arcs.len() {
         let arc = arcs[k];

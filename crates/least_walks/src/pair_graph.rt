@@ -29,12 +29,15 @@ pub trait PairGraph: ImplicitGraph {
     /// A set that holds each node that some arc leads to.
     fn targets(&self, alloc: Global) -> Result<NodeSet, NoMemory>
         ensures room { IfOk result (λ set. (Self.graph self.now).nodes ≤ length set) }
-        ensures inside { (node : ℕ) → IsTarget (Self.graph self.now) node → node < (Self.graph self.now).nodes }
-        ensures targets { IfOk result (λ set. (node : ℕ) → IsTarget (Self.graph self.now) node → IsIn set node) };
+        ensures inside { (node : ℕ) → IsTarget (Self.graph self.now) node
+            → node < (Self.graph self.now).nodes }
+        ensures targets { IfOk result
+            (λ set. (node : ℕ) → IsTarget (Self.graph self.now) node → IsIn set node) };
 
     /// Whether some of the arcs that are meant leads from the node into the set.
     fn leads_into(&self, node: usize, arcs: Arcs, set: &NodeSet) -> bool
         requires node { node < (Self.graph self.now).nodes }
         requires room { (Self.graph self.now).nodes ≤ length set.now }
-        ensures leads { IsTrue result ↔ LeadsInto (Self.graph self.now) (words self.now) arcs node set.now };
+        ensures leads { IsTrue result
+            ↔ LeadsInto (Self.graph self.now) (words self.now) arcs node set.now };
 }

@@ -78,8 +78,10 @@ fn word_back(
     requires spanned { AreSpanned (pair_step pairs.now.graph)
         order.now.finished.items order.now.places.items spanned.now }
     requires pair { pair < pair_count pairs.now.graph }
-    ensures least { IfOk result (λ word. IfSome word (IsLeastBack (pair_step pairs.now.graph) pair)) }
-    ensures none { IfOk result (λ word. IfNone word (IsOnCycle (pair_step pairs.now.graph) pair → ⊥)) }
+    ensures least { IfOk result (λ word.
+        IfSome word (IsLeastBack (pair_step pairs.now.graph) pair)) }
+    ensures none { IfOk result (λ word.
+        IfNone word (IsOnCycle (pair_step pairs.now.graph) pair → ⊥)) }
 {
     if !spanned[order.places[pair]] {
         return Ok(None);

@@ -66,7 +66,9 @@ pub fn finishing_order(alloc: Global, pairs: &Pairs) -> Result<Order, NoMemory>
 impl Search {
     /// A search of so many pairs that has found none.
     fn new(alloc: Global, count: usize) -> Result<Search, NoMemory>
-        ensures search { IfOk result (λ search. (step : ℕ → ℕ → Option ℕ) (width : ℕ) → IsSearch step count width 0 (search_data search)) }
+        ensures search { IfOk result (λ search.
+            (step : ℕ → ℕ → Option ℕ) (width : ℕ)
+            → IsSearch step count width 0 (search_data search)) }
         ensures path { IfOk result (λ search. search.path.items ≡ []) }
     {
         Ok(Search {
@@ -81,13 +83,15 @@ impl Search {
     /// Finishes the pair, and all that can be reached from it.
     fn finish_all(&mut self, pairs: &Pairs, start: usize) -> Result<(), NoMemory>
         requires start { start < pair_count pairs.now.graph }
-        requires search { IsSearch (pair_step pairs.now.graph) (pair_count pairs.now.graph) pairs.now.alphabet 0 (search_data self.old) }
+        requires search { IsSearch (pair_step pairs.now.graph) (pair_count pairs.now.graph)
+            pairs.now.alphabet 0 (search_data self.old) }
         requires path { self.old.path.items ≡ [] }
         ensures search { IfOk result (λ _.
             IsSearch (pair_step pairs.now.graph) (pair_count pairs.now.graph) pairs.now.alphabet 0 (search_data self.new)) }
         ensures path { IfOk result (λ _. self.new.path.items ≡ []) }
         ensures start { IfOk result (λ _. mark_at self.new.marks.items start ≢ marks.New) }
-        ensures known { IfOk result (λ _. KeepsKnown (search_data self.old) (search_data self.new)) }
+        ensures known { IfOk result (λ _.
+            KeepsKnown (search_data self.old) (search_data self.new)) }
     {
         self.reach(start)?;
         while let Some(visit) = self.path.pop() {
@@ -98,11 +102,13 @@ impl Search {
 
     /// Follows the next symbol of the last pair of the path, or finishes it where none is left.
     fn follow(&mut self, pairs: &Pairs, visit: Visit) -> Result<(), NoMemory>
-        requires { IsSearch (pair_step pairs.now.graph) (pair_count pairs.now.graph) pairs.now.alphabet 0
+        requires { IsSearch (pair_step pairs.now.graph) (pair_count pairs.now.graph)
+            pairs.now.alphabet 0
             (joined (search_data self.old) visit) }
         ensures search { IfOk result (λ _.
             IsSearch (pair_step pairs.now.graph) (pair_count pairs.now.graph) pairs.now.alphabet 0 (search_data self.new)) }
-        ensures known { IfOk result (λ _. KeepsKnown (search_data self.old) (search_data self.new)) }
+        ensures known { IfOk result (λ _.
+            KeepsKnown (search_data self.old) (search_data self.new)) }
         ensures falls { IfOk result (λ _. weight pairs.now.alphabet (search_data self.new)
             < weight pairs.now.alphabet (joined (search_data self.old) visit)) }
     {

@@ -43,9 +43,11 @@ pub fn a_constraint_has_one_cover()
 
 /// On a cover the memory of the graph is that of the constraint.
 pub fn memory_on_a_cover()
-    ensures lengths { (c : ConstraintData) (rows : List (List EdgeData)) → IsCoverOf (IsWordOf c) rows → (n : ℕ)
+    ensures lengths { (c : ConstraintData) (rows : List (List EdgeData))
+        → IsCoverOf (IsWordOf c) rows → (n : ℕ)
         → EndTogether (length rows) (HasEdge rows) n ↔ JoinsBy c n }
-    ensures memory { (c : ConstraintData) (rows : List (List EdgeData)) → IsCoverOf (IsWordOf c) rows → (n : ℕ)
+    ensures memory { (c : ConstraintData) (rows : List (List EdgeData))
+        → IsCoverOf (IsWordOf c) rows → (n : ℕ)
         → IsMemory (length rows) (HasEdge rows) n ↔ IsMemoryOf c n }
 {}
 
@@ -53,9 +55,11 @@ pub fn memory_on_a_cover()
 /// one least such word.
 pub fn a_graph_has_one_memory()
     ensures memory { (rows : List (List EdgeData)) (n m : ℕ)
-        → IsMemory (length rows) (HasEdge rows) n → IsMemory (length rows) (HasEdge rows) m → n ≡ m }
+        → IsMemory (length rows) (HasEdge rows) n → IsMemory (length rows) (HasEdge rows) m
+        → n ≡ m }
     ensures two_states { (rows : List (List EdgeData)) (u v x y : ℕ) (word other : List ℕ)
-        → IsLeastReadBack (length rows) (HasEdge rows) u v word → IsLeastReadBack (length rows) (HasEdge rows) x y other
+        → IsLeastReadBack (length rows) (HasEdge rows) u v word
+        → IsLeastReadBack (length rows) (HasEdge rows) x y other
         → (u ≡ x) × (v ≡ y) × (word ≡ other) }
 {}
 

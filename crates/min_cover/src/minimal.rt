@@ -20,13 +20,13 @@ use symbol_base::CoverName;
 const MOST_COVER_STATES: usize = 256;
 
 /// The cover of a constraint: the deterministic graph with the fewest states that reads its words
-/// from state 0, in which a lower number is reached by a lesser word (Marcus, Roth, Siegel,
-/// chapter 2: minimal deterministic presentation).
+/// from state 0, in which a lower number is reached by a lesser word (Marcus, Roth, Siegel, chapter
+/// 2: minimal deterministic presentation).
 ///
 /// Searches the raw states of words breadth first, at most 4,096, and then refines classes of them
 /// (Moore's algorithm). For R raw states, A symbols, F symbols of forbidden words and E edges that
-/// is time in proportion to R A (F + E), and to R A for each round of refinement, of which there are
-/// no more than states of the cover.
+/// is time in proportion to R A (F + E), and to R A for each round of refinement, of which there
+/// are no more than states of the cover.
 pub fn cover(alloc: Global, constraint: &Constraint) -> Result<Cover, CoverFault>
     ensures cover { IfOk result (λ cover. IsCoverOf (IsWordOf constraint.now) cover.graph) }
     ensures alphabet { IfOk result (λ cover. cover.alphabet ≡ constraint.now.alphabet) }
@@ -48,7 +48,8 @@ fn minimal_rows(
     alloc: Global,
     constraint: &Constraint,
 ) -> Result<Vec<Vec<Edge<CoverName>>>, CoverFault>
-    ensures rows { IfOk result (λ rows. AreRowsOfCover constraint.now (rows_data (λ name. name) rows.items)) }
+    ensures rows { IfOk result (λ rows.
+        AreRowsOfCover constraint.now (rows_data (λ name. name) rows.items)) }
     ensures fault { IfErr result (IsSearchFault constraint.now) }
 {
     let rows = explore(alloc, constraint)?;

@@ -51,7 +51,8 @@ impl<'a> Pairs<'a> {
     /// How many symbols there are.
     pub fn symbols(&self) -> u8
         ensures count { result ≡ self.now.alphabet }
-        ensures all { (pair symbol to : ℕ) → Leads (pair_step self.now.graph) pair symbol to → symbol < result }
+        ensures all { (pair symbol to : ℕ) → Leads (pair_step self.now.graph) pair symbol to
+            → symbol < result }
     {
         let cover = self.cover;
         cover.alphabet

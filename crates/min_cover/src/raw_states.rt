@@ -170,7 +170,8 @@ pub fn next_state(
     state: &StateKey,
     symbol: u8,
 ) -> Result<Option<StateKey>, NoMemory>
-    ensures { IfOk result (λ next. option_map raw_of next ≡ step_raw constraint.now (raw_of state.now) symbol) }
+    ensures { IfOk result (λ next.
+        option_map raw_of next ≡ step_raw constraint.now (raw_of state.now) symbol) }
 {
     if !runs_allow(constraint, state, symbol) {
         return Ok(None);

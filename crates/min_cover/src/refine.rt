@@ -38,7 +38,8 @@ fn sign_of_row(
 ) -> Result<WordList, NoMemory>
     requires inside { All (λ next. IfSome next (λ state. state < length classes.now)) row.now }
     requires small { (q : ℕ) → q < length classes.now → slice_index classes.now q < 4096 }
-    ensures { IfOk result (λ sign. sign ≡ class ∷ map (target_sign (slice_index classes.now)) row.now) }
+    ensures { IfOk result (λ sign.
+        sign ≡ class ∷ map (target_sign (slice_index classes.now)) row.now) }
 {
     let mut sign = Vec::new(alloc);
     sign.push(class)?;

@@ -20,7 +20,8 @@ pub type Row = Vec<Option<u32>>;
 /// The number of a raw state, which may be a new one.
 fn number_of(found: &mut IndexSet<StateKey>, state: StateKey) -> Result<u32, CoverFault>
     requires { length found.old.keys ≤ 4096 }
-    ensures { (c : ConstraintData) → NumbersRaw c found.old.keys (raw_of state) found.new.keys result }
+    ensures { (c : ConstraintData)
+        → NumbersRaw c found.old.keys (raw_of state) found.new.keys result }
 {
     let (number, _) = found.insert_full(state)?;
     if number >= MOST_STATES {
@@ -56,8 +57,10 @@ fn next_row(
 ) -> Result<Row, CoverFault>
     requires few { length found.old.keys ≤ 4096 }
     requires inside { length rows.now < length found.old.keys }
-    requires so_far { IsFoundSoFar constraint.now found.old.keys (map (λ row. row.items) rows.now) [] }
-    ensures found { IfOk result (λ row. IsFoundSoFar constraint.now found.new.keys (map (λ row. row.items) rows.now) row.items) }
+    requires so_far { IsFoundSoFar constraint.now found.old.keys (map (λ row. row.items) rows.now)
+        [] }
+    ensures found { IfOk result (λ row.
+        IsFoundSoFar constraint.now found.new.keys (map (λ row. row.items) rows.now) row.items) }
     ensures width { IfOk result (λ row. length row.items ≡ constraint.now.alphabet) }
     ensures few { IfOk result (λ _. length found.new.keys ≤ 4096) }
     ensures kept { IfOk result (λ _. length found.old.keys ≤ length found.new.keys) }
@@ -75,7 +78,8 @@ fn next_row(
 /// Takes a step from each raw state by each symbol, and keeps the raw states in a hash table.
 pub fn explore(alloc: Global, constraint: &Constraint) -> Result<Vec<Row>, CoverFault>
     ensures ranges { IsConstraint constraint.now }
-    ensures rows { IfOk result (λ rows. AreFollowers constraint.now (map (λ row. row.items) rows.items)) }
+    ensures rows { IfOk result (λ rows.
+        AreFollowers constraint.now (map (λ row. row.items) rows.items)) }
     ensures fault { IfErr result (IsSearchFault constraint.now) }
 {
     let mut found = IndexSet::new(alloc);

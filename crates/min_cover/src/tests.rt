@@ -23,7 +23,8 @@ pub fn edge(from: u32, label: u8, to: u32) -> GraphEdge
 
 /// Whether the edges join states below the count by 0s and 1s, and ascend without repeats.
 fn are_in_order(states: u32, edges: &[GraphEdge]) -> bool
-    ensures { IsTrue result → All (λ edge. (edge.from < states) × (edge.label < 2) × (edge.to < states)) edges.now
+    ensures { IsTrue result
+        → All (λ edge. (edge.from < states) × (edge.label < 2) × (edge.to < states)) edges.now
         × IsAscending IsEdgeBefore edges.now }
 {
     for at in 0..edges.len() {
@@ -208,7 +209,8 @@ fn spell(number: u32, alphabet: u8, word: &mut [u8])
     }
 }
 
-/// Asserts of each word of the length that the cover reads it exactly where it is one of the constraint.
+/// Asserts of each word of the length that the cover reads it exactly where it is one of the
+/// constraint.
 fn assert_words(
     rt: &impl Abort,
     constraint: &Constraint,

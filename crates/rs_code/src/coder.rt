@@ -17,10 +17,11 @@ use crate::{TooFar, repair};
 use gf256::Gf;
 use std::marker::Model;
 
-/// The tables for words with 2t check symbols: for each symbol, its multiple of the generator polynomial
-/// below the leading coefficient, and the values of monomials at the points of the symbols. A multiple is
-/// a row of 32 coefficients, from that of x^(2t - 1) down, the first in the top byte of `high`, the last
-/// in the lowest of `low`. The far rows are what a symbol comes to once another has passed behind it.
+/// The tables for words with 2t check symbols: for each symbol, its multiple of the generator
+/// polynomial below the leading coefficient, and the values of monomials at the points of the
+/// symbols. A multiple is a row of 32 coefficients, from that of x^(2t - 1) down, the first in the
+/// top byte of `high`, the last in the lowest of `low`. The far rows are what a symbol comes to
+/// once another has passed behind it.
 #[derive(Drop)]
 pub struct Coder {
     t: u32,
@@ -76,21 +77,23 @@ impl Coder {
         requires whole { length symbols.now % many ≡ 0 }
         requires room { length out.old ≡ 2 * self.now * many }
         requires short { length symbols.now + length out.old ≤ 255 * many }
-        ensures { (v : ℕ) → v < many → IsReedSolomonWord self.now (interleave many v (symbols.now ++ out.new)) }
+        ensures { (v : ℕ) → v < many
+            → IsReedSolomonWord self.now (interleave many v (symbols.now ++ out.new)) }
     {
         let checks = self.interleaved_checks(symbols, many);
         put_columns(&checks, many, out);
     }
 
-    /// Whether several words side by side are all words of the code: symbol s of word v stands at place
-    /// s * many + v.
+    /// Whether several words side by side are all words of the code: symbol s of word v stands at
+    /// place s * many + v.
     pub fn are_code_words(&self, words: &[u8], many: usize) -> bool
         requires some { 1 ≤ many }
         requires few { many ≤ 16 }
         requires whole { length words.now % many ≡ 0 }
         requires long { 2 * self.now * many ≤ length words.now }
         requires short { length words.now ≤ 255 * many }
-        ensures { IsTrue result ↔ ((v : ℕ) → v < many → IsReedSolomonWord self.now (interleave many v words.now)) }
+        ensures { IsTrue result
+            ↔ ((v : ℕ) → v < many → IsReedSolomonWord self.now (interleave many v words.now)) }
     {
         let checks = 2 * self.t as usize * many;
         let (front, given) = words.split_at(words.len() - checks);
@@ -101,7 +104,8 @@ impl Coder {
     fn interleaved_checks(&self, symbols: &[u8], many: usize) -> [[u8; 32]; 16]
         requires some { 1 ≤ many }
         requires few { many ≤ 16 }
-        ensures rests { (v : ℕ) → v < many → IsRest self.now (interleave many v symbols.now) (slice_index_or result v []) }
+        ensures rests { (v : ℕ) → v < many
+            → IsRest self.now (interleave many v symbols.now) (slice_index_or result v []) }
         ensures most { self.now ≤ 16 }
     {
         if self.t <= 8 {
@@ -113,8 +117,8 @@ impl Coder {
         }
     }
 
-    /// The remainder of a word by the generator polynomial, from the coefficient of x^(2t - 1) down, and
-    /// zeros behind it.
+    /// The remainder of a word by the generator polynomial, from the coefficient of x^(2t - 1)
+    /// down, and zeros behind it.
     pub fn remainder(&self, word: &[u8]) -> [u8; 32]
         requires { 2 * self.now ≤ length word.now }
         ensures remainder { IsRemainder self.now word.now (take (2 * self.now) result) }
@@ -194,10 +198,12 @@ impl Coder {
     }
 }
 
-/// The multiples of a polynomial, each in two numbers. They are sums of those by the numbers below 16 and
-/// those by the multiples of 16.
+/// The multiples of a polynomial, each in two numbers. They are sums of those by the numbers below
+/// 16 and those by the multiples of 16.
 fn multiples(polynomial: &[Gf; 32]) -> ([u128; 256], [u128; 256])
-    ensures { (f : ℕ) → f < 256 → register (slice_index result.0 f) (slice_index result.1 f) ≡ scaled f (values polynomial.now) }
+    ensures { (f : ℕ) → f < 256
+        → register (slice_index result.0 f) (slice_index result.1 f)
+        ≡ scaled f (values polynomial.now) }
 {
     let lower = sixteen_multiples(polynomial, 1);
     let upper = sixteen_multiples(polynomial, 16);
@@ -214,7 +220,8 @@ fn multiples(polynomial: &[Gf; 32]) -> ([u128; 256], [u128; 256])
 fn sixteen_multiples(polynomial: &[Gf; 32], factor: u8) -> ([u128; 16], [u128; 16])
     requires { factor ≤ 16 }
     ensures { (k : ℕ) → k < 16
-        → register (slice_index result.0 k) (slice_index result.1 k) ≡ scaled (factor * k) (values polynomial.now) }
+        → register (slice_index result.0 k) (slice_index result.1 k)
+        ≡ scaled (factor * k) (values polynomial.now) }
 {
     let mut high = [0; 16];
     let mut low = [0; 16];
@@ -293,8 +300,8 @@ fn halves(number: u128) -> [u8; 16]
     symbols
 }
 
-/// The symbols of a number; a function of its own, for only a plain number of 64 bits is turned round by
-/// one instruction.
+/// The symbols of a number; a function of its own, for only a plain number of 64 bits is turned
+/// round by one instruction.
 #[inline(never)]
 fn eight_symbols(number: u64) -> [u8; 8]
     ensures { result ≡ to_be_bytes w64 number }
@@ -304,7 +311,8 @@ fn eight_symbols(number: u64) -> [u8; 8]
 
 /// Feeds symbols to a register of 16 symbols, which are enough where t is at most 8, two at a time.
 fn narrow_rest(rows: &[u128; 256], far_rows: &[u128; 256], symbols: &[u8]) -> u128
-    ensures { (t : ℕ) (low far_low : List ℕ) → t ≤ 8 → AreRows t rows.now low → AreFarRows rows.now low far_rows.now far_low
+    ensures { (t : ℕ) (low far_low : List ℕ) → t ≤ 8 → AreRows t rows.now low
+        → AreFarRows rows.now low far_rows.now far_low
         → IsRest t symbols.now (register result 0) }
 {
     let mut rest = 0u128;
@@ -338,7 +346,8 @@ fn narrow_rests(rows: &[u128; 256], symbols: &[u8], many: usize) -> [u128; 16]
 fn feed_narrow(rests: &mut [u128; 16], rows: &[u128; 256], column: &[u8])
     requires { length column.now ≤ 16 }
     ensures { (v : ℕ) → v < length column.now
-        → slice_index rests.new v ≡ narrow_step rows.now (slice_index rests.old v) (slice_index column.now v) }
+        → slice_index rests.new v
+        ≡ narrow_step rows.now (slice_index rests.old v) (slice_index column.now v) }
 {
     for v in 0..column.len() {
         let place = (rests[v] >> 120) as u8 ^ column[v];
@@ -356,7 +365,8 @@ fn wide_rests(
     requires some { 1 ≤ many }
     requires few { many ≤ 16 }
     ensures { (t : ℕ) → AreRows t high_rows.now low_rows.now → (v : ℕ) → v < many
-        → IsRest t (interleave many v symbols.now) (register (slice_index result.0 v) (slice_index result.1 v)) }
+        → IsRest t (interleave many v symbols.now)
+        (register (slice_index result.0 v) (slice_index result.1 v)) }
 {
     let mut high = [0u128; 16];
     let mut low = [0u128; 16];
@@ -382,9 +392,13 @@ fn feed_wide(
 )
     requires { length column.now ≤ 16 }
     ensures high { (v : ℕ) → v < length column.now
-        → slice_index high.new v ≡ wide_step high_rows.now (slice_index high.old v) (slice_index low.old v) (slice_index column.now v) }
+        → slice_index high.new v
+        ≡ wide_step high_rows.now (slice_index high.old v) (slice_index low.old v)
+        (slice_index column.now v) }
     ensures low { (v : ℕ) → v < length column.now
-        → slice_index low.new v ≡ wide_step_behind low_rows.now (slice_index high.old v) (slice_index low.old v) (slice_index column.now v) }
+        → slice_index low.new v
+        ≡ wide_step_behind low_rows.now (slice_index high.old v) (slice_index low.old v)
+        (slice_index column.now v) }
 {
     for v in 0..column.len() {
         let place = ((high[v] >> 120) as u8 ^ column[v]) as usize;
@@ -395,7 +409,8 @@ fn feed_wide(
 
 /// The symbols of each register.
 fn all_symbols(high: &[u128; 16], low: &[u128; 16]) -> [[u8; 32]; 16]
-    ensures { (v : ℕ) → v < 16 → slice_index_or result v [] ≡ register (slice_index high.now v) (slice_index low.now v) }
+    ensures { (v : ℕ) → v < 16
+        → slice_index_or result v [] ≡ register (slice_index high.now v) (slice_index low.now v) }
 {
     let mut symbols = [[0; 32]; 16];
     for v in 0..16 {

@@ -14,7 +14,8 @@ use gf256::Gf;
 pub fn generator(t: u32) -> [Gf; 32]
     requires { t ≤ 16 }
     ensures zeros { IsBelowDegree (2 * t) (values result) }
-    ensures roots { (i : ℕ) → i < 2 * t → weighted_sum (take (2 * t) (values result)) i ≡ power alpha (2 * t * i) }
+    ensures roots { (i : ℕ) → i < 2 * t
+        → weighted_sum (take (2 * t) (values result)) i ≡ power alpha (2 * t * i) }
 {
     let mut product = [Gf::ZERO; 32];
     let mut root = Gf::ONE;
@@ -30,7 +31,9 @@ fn with_root(polynomial: &[Gf; 32], degree: usize, root: Gf) -> [Gf; 32]
     requires small { degree < 32 }
     requires polynomial { IsBelowDegree degree (values polynomial.now) }
     ensures zeros { IsBelowDegree (degree + 1) (values result) }
-    ensures roots { (i : ℕ) → (weighted_sum (take degree (values polynomial.now)) i ≡ power alpha (degree * i)) ⊎ (root.value ≡ power alpha i)
+    ensures roots { (i : ℕ)
+        → (weighted_sum (take degree (values polynomial.now)) i ≡ power alpha (degree * i))
+        ⊎ (root.value ≡ power alpha i)
         → weighted_sum (take (degree + 1) (values result)) i ≡ power alpha ((degree + 1) * i) }
 {
     let mut product = [Gf::ZERO; 32];
@@ -42,13 +45,17 @@ fn with_root(polynomial: &[Gf; 32], degree: usize, root: Gf) -> [Gf; 32]
     product
 }
 
-/// Takes a further symbol into the remainder: at a root of the generator its polynomial is multiplied
-/// by x, and the symbol times x^n comes to it.
+/// Takes a further symbol into the remainder: at a root of the generator its polynomial is
+/// multiplied by x, and the symbol times x^n comes to it.
 pub fn feed(register: &mut [u8], generator: &[Gf; 32], symbol: u8)
     requires some { 1 ≤ length register.old }
     requires few { length register.old ≤ 32 }
-    ensures { (i : ℕ) → weighted_sum (take (length register.old) (values generator.now)) i ≡ power alpha (length register.old * i)
-        → weighted_sum register.new i ≡ plus (times (weighted_sum register.old i) (power alpha i)) (times symbol (power alpha (length register.old * i))) }
+    ensures { (i : ℕ)
+        → weighted_sum (take (length register.old) (values generator.now)) i
+        ≡ power alpha (length register.old * i)
+        → weighted_sum register.new i
+        ≡ plus (times (weighted_sum register.old i) (power alpha i))
+        (times symbol (power alpha (length register.old * i))) }
 {
     let last = register.len() - 1;
     let factor = Gf {

@@ -1,5 +1,5 @@
-//! The errors of a word, found from its weighted sums: the places at the roots of the locator, and the
-//! values there by the evaluator.
+//! The errors of a word, found from its weighted sums: the places at the roots of the locator, and
+//! the values there by the evaluator.
 
 ghost use Rattle.std.specs.Prelude.{◌≡◌, ◌≢◌, ℕ, ◌+◌, ◌*◌, ◌<◌, ◌≤◌, ◌↔◌, List, length, take, slice_index, All, false, IsTrue, IfSome, IfNone};
 ghost use Rattle.gf256.specs.Field.{IsElement, power, alpha, inverse, times};
@@ -14,22 +14,24 @@ use crate::lanes::{horner_step, products, values_at};
 use crate::monomials::Monomials;
 use gf256::Gf;
 
-/// The exponents of the powers of alpha at which a polynomial is 0, in rising order: the first of the
-/// array, whose place behind them is room for what is no root.
+/// The exponents of the powers of alpha at which a polynomial is 0, in rising order: the first of
+/// the array, whose place behind them is room for what is no root.
 #[derive(Clone, Copy)]
 struct Roots {
     exponents: [u8; 17],
     count: usize,
 }
 
-/// The one error pattern of at most t symbols that a word of this length with these sums can have, in
-/// the first places of the answer; `None` where there is none.
+/// The one error pattern of at most t symbols that a word of this length with these sums can have,
+/// in the first places of the answer; `None` where there is none.
 pub fn find_errors(sums: &[Gf; 32], t: u32, symbols: usize, points: &Monomials) -> Option<[u8; 255]>
     requires least { 1 ≤ t }
     requires most { t ≤ 16 }
     requires short { symbols ≤ 255 }
-    ensures pattern { IfSome result (λ errors. IsErrorPattern t symbols (values sums.now) (take symbols errors)) }
-    ensures none { IfNone result ((errors : List ℕ) → IsErrorPattern t symbols (values sums.now) errors → ⊥) }
+    ensures pattern { IfSome result (λ errors.
+        IsErrorPattern t symbols (values sums.now) (take symbols errors)) }
+    ensures none { IfNone result
+        ((errors : List ℕ) → IsErrorPattern t symbols (values sums.now) errors → ⊥) }
 {
     let pair = key_pair(sums, t);
     let polynomial = turned(&pair.locator, t);
@@ -42,8 +44,8 @@ pub fn find_errors(sums: &[Gf; 32], t: u32, symbols: usize, points: &Monomials) 
     Some(place_errors(exponents, &values, symbols))
 }
 
-/// The polynomial x^t p(1/x) of a polynomial p of degree at most t: its coefficients in turned order. It
-/// is 0 at the points of the errors where the locator is 0 at their inverses.
+/// The polynomial x^t p(1/x) of a polynomial p of degree at most t: its coefficients in turned
+/// order. It is 0 at the points of the errors where the locator is 0 at their inverses.
 fn turned(polynomial: &[Gf; 17], t: u32) -> [Gf; 17]
     requires most { t ≤ 16 }
     requires elements { All IsElement (values polynomial.now) }
@@ -51,7 +53,8 @@ fn turned(polynomial: &[Gf; 17], t: u32) -> [Gf; 17]
     requires nonzero { IsNonzero (values polynomial.now) }
     ensures vector { IsVector 17 (t + 1) (values result) }
     ensures nonzero { IsNonzero (values result) }
-    ensures value { (x : ℕ) → IsElement x → x ≢ 0 → value_at (values result) x ≡ turned t (values polynomial.now) x }
+    ensures value { (x : ℕ) → IsElement x → x ≢ 0
+        → value_at (values result) x ≡ turned t (values polynomial.now) x }
 {
     let last = t as usize;
     let mut turned = [Gf::ZERO; 17];
@@ -68,7 +71,8 @@ fn find_roots(polynomial: &[Gf; 17], t: u32, symbols: usize, points: &Monomials)
     requires vector { IsVector 17 (t + 1) (values polynomial.now) }
     requires nonzero { IsNonzero (values polynomial.now) }
     ensures few { result.count ≤ t }
-    ensures exponents { take result.count result.exponents ≡ root_exponents (values polynomial.now) symbols }
+    ensures exponents { take result.count result.exponents
+        ≡ root_exponents (values polynomial.now) symbols }
 {
     let values = points.values(&polynomial[..t as usize + 1], (symbols + 15) / 16);
     let mut exponents = [0; 17];
@@ -83,16 +87,17 @@ fn find_roots(polynomial: &[Gf; 17], t: u32, symbols: usize, points: &Monomials)
     Roots { exponents, count }
 }
 
-/// The values of the errors at the points with these exponents: the evaluator at the inverse of an error's
-/// point, divided by the odd part of the locator there, which is x times its derivative (Forney). It is 0
-/// at a double root.
+/// The values of the errors at the points with these exponents: the evaluator at the inverse of an
+/// error's point, divided by the odd part of the locator there, which is x times its derivative
+/// (Forney). It is 0 at a double root.
 fn error_values(exponents: &[u8], pair: &KeyPair, t: u32) -> [Gf; 16]
     requires few { length exponents.now ≤ 16 }
     requires most { t ≤ 16 }
     requires locator { IsBelowDegree (t + 1) (values pair.now.locator) }
     requires evaluator { IsBelowDegree t (values pair.now.evaluator) }
     ensures right { (k : ℕ) → k < length exponents.now
-        → IsErrorValue (values pair.now.locator) (values pair.now.evaluator) (slice_index exponents.now k) (slice_index (values result) k) }
+        → IsErrorValue (values pair.now.locator) (values pair.now.evaluator)
+        (slice_index exponents.now k) (slice_index (values result) k) }
     ensures behind { (k : ℕ) → length exponents.now ≤ k → slice_index (values result) k ≡ 0 }
     ensures elements { All IsElement (values result) }
 {
@@ -118,7 +123,8 @@ fn inverse_points(exponents: &[u8]) -> [Gf; 16]
 /// The values of the terms of odd degree at sixteen points, by Horner's rule in their squares.
 fn odd_parts(polynomial: &[Gf], points: &[Gf; 16]) -> [Gf; 16]
     ensures values { (k : ℕ) → k < 16
-        → slice_index (values result) k ≡ value_at (every_other false (values polynomial.now)) (slice_index (values points.now) k) }
+        → slice_index (values result) k
+        ≡ value_at (every_other false (values polynomial.now)) (slice_index (values points.now) k) }
     ensures elements { All IsElement (values result) }
 {
     let terms = polynomial.len() / 2;
@@ -134,7 +140,9 @@ fn odd_parts(polynomial: &[Gf], points: &[Gf; 16]) -> [Gf; 16]
 fn quotients(dividends: &[Gf; 16], divisors: &[Gf; 16], count: usize) -> [Gf; 16]
     requires few { count ≤ 16 }
     ensures quotients { (k : ℕ) → k < count → slice_index (values divisors.now) k ≢ 0
-        → slice_index (values result) k ≡ times (slice_index (values dividends.now) k) (inverse (slice_index (values divisors.now) k)) }
+        → slice_index (values result) k
+        ≡ times (slice_index (values dividends.now) k)
+        (inverse (slice_index (values divisors.now) k)) }
     ensures behind { (k : ℕ) → count ≤ k → slice_index (values result) k ≡ 0 }
     ensures elements { All IsElement (values result) }
 {
@@ -147,7 +155,8 @@ fn quotients(dividends: &[Gf; 16], divisors: &[Gf; 16], count: usize) -> [Gf; 16
 
 /// The quotient, or 0 where the divisor is 0.
 fn quotient(dividend: Gf, divisor: Gf) -> Gf
-    ensures quotient { divisor.value ≢ 0 → result.value ≡ times dividend.value (inverse divisor.value) }
+    ensures quotient { divisor.value ≢ 0
+        → result.value ≡ times dividend.value (inverse divisor.value) }
     ensures element { IsElement result.value }
 {
     if divisor.value == 0 {
@@ -156,14 +165,18 @@ fn quotient(dividend: Gf, divisor: Gf) -> Gf
     dividend.mul(divisor.inv())
 }
 
-/// Whether errors of these values at the points with these exponents, and 0 behind them, have the first 2t
-/// sums.
+/// Whether errors of these values at the points with these exponents, and 0 behind them, have the
+/// first 2t sums.
 fn have_sums(exponents: &[u8], error_values: &[Gf; 16], sums: &[Gf; 32], t: u32) -> bool
     requires few { length exponents.now ≤ 16 }
     requires most { t ≤ 16 }
-    requires behind { (k : ℕ) → length exponents.now ≤ k → slice_index (values error_values.now) k ≡ 0 }
+    requires behind { (k : ℕ) → length exponents.now ≤ k
+        → slice_index (values error_values.now) k ≡ 0 }
     requires elements { All IsElement (values error_values.now) }
-    ensures { IsTrue result ↔ ((i : ℕ) → i < 2 * t → moment (values error_values.now) (powers exponents.now) i ≡ slice_index (values sums.now) i) }
+    ensures { IsTrue result
+        ↔ ((i : ℕ) → i < 2 * t
+        → moment (values error_values.now) (powers exponents.now) i
+        ≡ slice_index (values sums.now) i) }
 {
     let points = points_of(exponents);
     let mut terms = *error_values;
@@ -179,7 +192,8 @@ fn have_sums(exponents: &[u8], error_values: &[Gf; 16], sums: &[Gf; 32], t: u32)
 /// The powers of alpha with these exponents, and 0 behind them.
 fn points_of(exponents: &[u8]) -> [Gf; 16]
     requires { length exponents.now ≤ 16 }
-    ensures { (k : ℕ) → k < length exponents.now → slice_index (values result) k ≡ power alpha (slice_index exponents.now k) }
+    ensures { (k : ℕ) → k < length exponents.now
+        → slice_index (values result) k ≡ power alpha (slice_index exponents.now k) }
 {
     let mut points = [Gf::ZERO; 16];
     for k in 0..exponents.len() {
@@ -207,8 +221,11 @@ fn place_errors(exponents: &[u8], error_values: &[Gf; 16], symbols: usize) -> [u
     requires within { AreBelow symbols exponents.now }
     ensures symbols { length (take symbols result) ≡ symbols }
     ensures elements { All IsElement (take symbols result) }
-    ensures sums { (i : ℕ) → weighted_sum (take symbols result) i ≡ moment (values error_values.now) (powers exponents.now) i }
-    ensures rooted { (p : List ℕ) → HasRoots p (powers exponents.now) → IsRooted p (take symbols result) }
+    ensures sums { (i : ℕ)
+        → weighted_sum (take symbols result) i
+        ≡ moment (values error_values.now) (powers exponents.now) i }
+    ensures rooted { (p : List ℕ) → HasRoots p (powers exponents.now)
+        → IsRooted p (take symbols result) }
 {
     let mut errors = [0; 255];
     for k in 0..exponents.len() {

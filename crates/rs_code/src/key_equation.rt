@@ -1,5 +1,5 @@
-//! The key equation of the errors of a word, by the extended division of x^(2t) by the polynomial of
-//! the sums (Sugiyama, Kasahara, Hirasawa, Namekawa).
+//! The key equation of the errors of a word, by the extended division of x^(2t) by the polynomial
+//! of the sums (Sugiyama, Kasahara, Hirasawa, Namekawa).
 
 ghost use Rattle.std.specs.Prelude.{◌≡◌, ◌≢◌, ℕ, ◌+◌, ◌-◌, ◌<◌, ◌≤◌, List, ◌∷◌, ◌++◌, length, take, replicate, slice_index};
 ghost use Rattle.gf256.specs.Field.{IsElement};
@@ -11,17 +11,17 @@ ghost use Rattle.rs_code.specs.inside.Division.{shifted, HasLength, CanDivide, R
 use gf256::Gf;
 use std::mem::swap;
 
-/// A locator of degree at most t and an evaluator of degree below t that meet the key equation of the
-/// sums of a word: their coefficients, from the constant term on.
+/// A locator of degree at most t and an evaluator of degree below t that meet the key equation of
+/// the sums of a word: their coefficients, from the constant term on.
 #[derive(Clone, Copy, Debug)]
 pub struct KeyPair {
     pub locator: [Gf; 17],
     pub evaluator: [Gf; 16],
 }
 
-/// A remainder of the division, and the factor of the sums that leaves it modulo x^(2t): coefficients
-/// from the constant term on. There are 33 of a remainder and 17 of a factor at most; behind them is room,
-/// so that 32 and 16 at a time can be added at each shift.
+/// A remainder of the division, and the factor of the sums that leaves it modulo x^(2t):
+/// coefficients from the constant term on. There are 33 of a remainder and 17 of a factor at most;
+/// behind them is room, so that 32 and 16 at a time can be added at each shift.
 #[derive(Clone, Copy)]
 struct Remainder {
     coefficients: [Gf; 48],
@@ -30,8 +30,8 @@ struct Remainder {
     factor: [Gf; 32],
 }
 
-/// The error locator and the error evaluator of the first 2t sums of a word. The locator isn't 0, and
-/// the two have no root in common but 0. `t` is 1 to 16.
+/// The error locator and the error evaluator of the first 2t sums of a word. The locator isn't 0,
+/// and the two have no root in common but 0. `t` is 1 to 16.
 pub fn key_pair(sums: &[Gf; 32], t: u32) -> KeyPair
     requires least { 1 ≤ t }
     requires most { t ≤ 16 }
@@ -72,7 +72,8 @@ fn power(n: usize) -> Remainder
 /// The polynomial of the first n sums, whose factor is 1.
 fn sums_below(sums: &[Gf; 32], n: usize) -> Remainder
     requires { n ≤ 32 }
-    ensures coefficients { values result.coefficients ≡ take n (values sums.now) ++ replicate (48 - n) 0 }
+    ensures coefficients { values result.coefficients
+        ≡ take n (values sums.now) ++ replicate (48 - n) 0 }
     ensures has_length { HasLength result.length (values result.coefficients) }
     ensures short { result.length ≤ n }
     ensures factor { values result.factor ≡ 1 ∷ replicate 31 0 }
@@ -95,7 +96,8 @@ fn sums_below(sums: &[Gf; 32], n: usize) -> Remainder
 /// Leaves the remainder of `rest` by `here`: the one after them in the division.
 fn divide(rest: &mut Remainder, here: &Remainder)
     requires { CanDivide rest.old here.now }
-    ensures { (t : ℕ) (sums : List ℕ) → t ≤ 16 → t < here.now.length → AreInARow t sums rest.old here.now
+    ensures { (t : ℕ) (sums : List ℕ) → t ≤ 16 → t < here.now.length
+        → AreInARow t sums rest.old here.now
         → AreInARow t sums here.now rest.new }
 {
     while rest.length >= here.length {
@@ -123,13 +125,15 @@ fn reduce(rest: &mut Remainder, here: &Remainder)
     rest.length = length_of(&rest.coefficients, rest.length - 1);
 }
 
-/// Adds a multiple of a polynomial with so many coefficients, times the power x^shift: 16 or 32 of them,
-/// both of which are whole numbers of lanes.
+/// Adds a multiple of a polynomial with so many coefficients, times the power x^shift: 16 or 32 of
+/// them, both of which are whole numbers of lanes.
 fn add_multiple(to: &mut [Gf; 48], from: &[Gf; 48], count: usize, scale: Gf, shift: usize)
     requires few { count ≤ 32 }
     requires room { shift ≤ 16 }
     ensures { (lanes : ℕ) × (count ≤ lanes) × (lanes ≤ 32)
-        × (values to.new ≡ sum_of (values to.old) (scaled scale.value (shifted shift (values (take lanes from.now))))) }
+        × (values to.new
+        ≡ sum_of (values to.old)
+        (scaled scale.value (shifted shift (values (take lanes from.now))))) }
 {
     if count <= 16 {
         add_shifted(to, &from[..16], scale, shift);
@@ -141,7 +145,8 @@ fn add_multiple(to: &mut [Gf; 48], from: &[Gf; 48], count: usize, scale: Gf, shi
 /// Adds a multiple of another polynomial, times the power x^shift.
 fn add_shifted(to: &mut [Gf], from: &[Gf], scale: Gf, shift: usize)
     requires { shift + length from.now ≤ length to.old }
-    ensures { values to.new ≡ sum_of (values to.old) (scaled scale.value (shifted shift (values from.now))) }
+    ensures { values to.new
+        ≡ sum_of (values to.old) (scaled scale.value (shifted shift (values from.now))) }
 {
     for j in 0..from.len() {
         to[shift + j] = to[shift + j].add(from[j].mul_by_doubling(scale));

@@ -1,5 +1,5 @@
-//! Sixteen elements at a time. The functions are parts of their callers' loops, which keep what a loop
-//! multiplies by in its doublings.
+//! Sixteen elements at a time. The functions are parts of their callers' loops, which keep what a
+//! loop multiplies by in its doublings.
 
 ghost use Rattle.std.specs.Prelude.{◌≡◌, ℕ, ◌<◌, slice_index, All};
 ghost use Rattle.gf256.specs.Field.{IsElement, plus, times};
@@ -12,7 +12,8 @@ use gf256::Gf;
 #[inline(always)]
 pub fn products(terms: &[Gf; 16], factors: &[Gf; 16]) -> [Gf; 16]
     ensures products { (k : ℕ) → k < 16
-        → slice_index (values result) k ≡ times (slice_index (values terms.now) k) (slice_index (values factors.now) k) }
+        → slice_index (values result) k
+        ≡ times (slice_index (values terms.now) k) (slice_index (values factors.now) k) }
     ensures elements { All IsElement (values result) }
 {
     let mut products = [Gf::ZERO; 16];
@@ -38,7 +39,8 @@ pub fn horner_step(now: &[Gf; 16], points: &[Gf; 16], coefficient: Gf) -> [Gf; 1
 /// The values of a polynomial at sixteen points, by Horner's rule.
 pub fn values_at(polynomial: &[Gf], points: &[Gf; 16]) -> [Gf; 16]
     ensures { (k : ℕ) → k < 16
-        → slice_index (values result) k ≡ value_at (values polynomial.now) (slice_index (values points.now) k) }
+        → slice_index (values result) k
+        ≡ value_at (values polynomial.now) (slice_index (values points.now) k) }
 {
     let mut now = [Gf::ZERO; 16];
     for k in 0..polynomial.len() {

@@ -1,5 +1,5 @@
-//! Reed-Solomon words over the field of 256 elements: up to 255 symbols, of which the last 2t are check
-//! symbols, with the roots alpha^0 to alpha^(2t - 1). Up to t wrong symbols are corrected.
+//! Reed-Solomon words over the field of 256 elements: up to 255 symbols, of which the last 2t are
+//! check symbols, with the roots alpha^0 to alpha^(2t - 1). Up to t wrong symbols are corrected.
 #![tactic(auto)]
 
 ghost use Rattle.std.specs.Prelude.{◌≡◌, ◌↔◌, ℕ, ◌+◌, ◌*◌, ◌<◌, ◌≤◌, List, ◌++◌, length, All, IfOk, OnOk, OnErr, IsOk};
@@ -48,9 +48,9 @@ pub fn parity(symbols: &[u8], t: u32, out: &mut [u8])
     }
 }
 
-/// Corrects up to t wrong symbols of a received word, and answers how many it changed: the locator of
-/// the errors meets the key equation of the word's sums (Peterson; Sugiyama and others; Forney). For
-/// many words make a `Coder`.
+/// Corrects up to t wrong symbols of a received word, and answers how many it changed: the locator
+/// of the errors meets the key equation of the word's sums (Peterson; Sugiyama and others; Forney).
+/// For many words make a `Coder`.
 pub fn correct(word: &mut [u8], t: u32) -> Result<u32, TooFar>
     requires least { 1 ≤ t }
     requires most { t ≤ 16 }

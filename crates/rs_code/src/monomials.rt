@@ -12,9 +12,9 @@ use crate::sums::add_symbols;
 use gf256::Gf;
 use std::marker::Model;
 
-/// For each degree from 1 to 16, the values of monomials c x^degree at alpha^0 to alpha^15, row by row:
-/// those with a coefficient c below 16, and those where it is a multiple of 16. Of any other coefficient
-/// they are the sum of two of these.
+/// For each degree from 1 to 16, the values of monomials c x^degree at alpha^0 to alpha^15, row by
+/// row: those with a coefficient c below 16, and those where it is a multiple of 16. Of any other
+/// coefficient they are the sum of two of these.
 #[derive(Drop)]
 pub struct Monomials {
     lower: [u8; 4096],
@@ -51,7 +51,8 @@ impl Monomials {
     pub fn first_values(&self, polynomial: &[Gf], half: usize) -> [Gf; 16]
         requires { half < 2 }
         ensures { (j : ℕ) → j < 16
-            → slice_index (values result) j ≡ value_at (values polynomial.now) (power alpha (16 * half + j)) }
+            → slice_index (values result) j
+            ≡ value_at (values polynomial.now) (power alpha (16 * half + j)) }
     {
         if half == 0 {
             values_at(polynomial, &self.first_points)
@@ -66,7 +67,8 @@ impl Monomials {
         requires short { length polynomial.now ≤ 17 }
         requires few { rows ≤ 16 }
         requires elements { All IsElement (values polynomial.now) }
-        ensures { (n : ℕ) → n < 16 * rows → slice_index result n ≡ value_at (values polynomial.now) (power alpha n) }
+        ensures { (n : ℕ) → n < 16 * rows
+            → slice_index result n ≡ value_at (values polynomial.now) (power alpha n) }
     {
         let degree = polynomial.len() - 1;
         let mut terms = [Gf::ZERO; 16];
@@ -80,7 +82,8 @@ impl Monomials {
         found
     }
 
-    /// The values of a polynomial at alpha^0 to alpha^15, from its constant term and its higher terms.
+    /// The values of a polynomial at alpha^0 to alpha^15, from its constant term and its higher
+    /// terms.
     fn tabled_values(&self, constant: Gf, terms: &[Gf]) -> [u8; 16]
         requires short { length terms.now ≤ 16 }
         requires element { IsElement constant.value }
@@ -126,7 +129,8 @@ fn table(factor: u8) -> [u8; 4096]
 /// The sixteen terms of each progression with this ratio that begins at a multiple of the factor.
 fn table_rows(factor: u8, ratio: Gf) -> [u8; 256]
     requires { factor ≤ 16 }
-    ensures { (n : ℕ) → n < 256 → slice_index result n ≡ times (factor * (n / 16)) (power ratio.value (n % 16)) }
+    ensures { (n : ℕ) → n < 256
+        → slice_index result n ≡ times (factor * (n / 16)) (power ratio.value (n % 16)) }
 {
     let powers = progression(Gf::ONE, ratio);
     let mut rows = [0; 256];
@@ -142,7 +146,8 @@ fn table_rows(factor: u8, ratio: Gf) -> [u8; 256]
 
 /// The terms first, first * ratio, first * ratio^2 and so on.
 fn progression(first: Gf, ratio: Gf) -> [Gf; 16]
-    ensures { (j : ℕ) → j < 16 → slice_index (values result) j ≡ times first.value (power ratio.value j) }
+    ensures { (j : ℕ) → j < 16
+        → slice_index (values result) j ≡ times first.value (power ratio.value j) }
 {
     let mut terms = [Gf::ZERO; 16];
     for j in 0..16 {

@@ -11,7 +11,8 @@ ghost use Rattle.rs_code.specs.Polynomial.{value_at, sum_of};
 use crate::monomials::Monomials;
 use gf256::Gf;
 
-/// The first 2t weighted sums of a word, its syndromes, sum i in place i: they are those of its remainder.
+/// The first 2t weighted sums of a word, its syndromes, sum i in place i: they are those of its
+/// remainder.
 pub fn syndromes(rest: &[u8], t: u32, points: &Monomials) -> [Gf; 32]
     requires most { t ≤ 16 }
     requires full { length rest.now ≡ 2 * t }
@@ -26,11 +27,13 @@ pub fn syndromes(rest: &[u8], t: u32, points: &Monomials) -> [Gf; 32]
     sums
 }
 
-/// The polynomial of some symbols, of which the last is the constant term: the coefficients from the
-/// constant term on.
+/// The polynomial of some symbols, of which the last is the constant term: the coefficients from
+/// the constant term on.
 fn polynomial_of(symbols: &[u8]) -> [Gf; 32]
     requires { length symbols.now ≤ 32 }
-    ensures { (i : ℕ) → value_at (take (length symbols.now) (values result)) (power alpha i) ≡ weighted_sum symbols.now i }
+    ensures { (i : ℕ)
+        → value_at (take (length symbols.now) (values result)) (power alpha i)
+        ≡ weighted_sum symbols.now i }
 {
     let mut polynomial = [Gf::ZERO; 32];
     for k in 0..symbols.len() {

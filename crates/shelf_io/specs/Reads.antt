@@ -12,7 +12,8 @@ pub data HasRead {S : Type 0} (gives : S → List ℕ → ℕ → Result ℕ Unr
   more : (at n : ℕ) (mid last : S) → HasRead gives name first at mid → 0 < n → gives mid name at (Ok n) last → HasRead gives name first (at + n) last
 
 -- one more read, from the place that they came to, answers this and leads to the last shelf
-pub record LastRead {S : Type 0} (gives : S → List ℕ → ℕ → Result ℕ Unread → S → Type 0) (name : List ℕ) (first last : S) (at : ℕ) (answer : Result ℕ Unread) : Type 0 where
+pub record LastRead {S : Type 0} (gives : S → List ℕ → ℕ → Result ℕ Unread → S → Type 0) (name : List ℕ)
+    (first last : S) (at : ℕ) (answer : Result ℕ Unread) : Type 0 where
   pub before : S
   pub run : HasRead gives name first at before
   pub read : gives before name at answer last

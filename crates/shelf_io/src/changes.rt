@@ -20,7 +20,8 @@ pub fn put_behind_a_file()
 /// Bytes that are put in two parts are put, and where one of the parts fails they are put in part.
 pub fn put_in_two_parts()
     ensures both { (name first second : List ℕ) (old mid new : Option Files)
-        → mid ≡ option_map (all_appended name first) old → new ≡ option_map (all_appended name second) mid
+        → mid ≡ option_map (all_appended name first) old
+        → new ≡ option_map (all_appended name second) mid
         → new ≡ option_map (all_appended name (first ++ second)) old }
     ensures second_fails { (name first second : List ℕ) (old mid new : Option Files)
         → mid ≡ option_map (all_appended name first) old → IsPutInPart name second mid new
@@ -31,7 +32,9 @@ pub fn put_in_two_parts()
 
 /// A file that is made, and has all bytes put into it, is written.
 pub fn put_all_into_a_made_file()
-    ensures { (name bytes : List ℕ) (old made new : Option Files) (result : Result (Unit {0}) Failed)
-        → made ≡ option_map (λ files. with_file files name []) old → IsPutAll name bytes made new result
+    ensures { (name bytes : List ℕ) (old made new : Option Files)
+        (result : Result (Unit {0}) Failed)
+        → made ≡ option_map (λ files. with_file files name []) old
+        → IsPutAll name bytes made new result
         → IsWritten name bytes old new result }
 {}

@@ -98,7 +98,8 @@ impl Shelf for FailingShelf {
         ensures listed { FailsNext self.old.calls → result ≡ Err Unread.Failed }
         ensures other { ¬ FailsNext self.old.calls
             → IsReadCall name.now at room.old room.new self.old.inner self.new.inner result }
-        ensures bytes { OnFile (Some (files_of self.old.inner.entries)) name.now (IsRead at room.new result) }
+        ensures bytes { OnFile (Some (files_of self.old.inner.entries)) name.now
+            (IsRead at room.new result) }
         ensures room { KeepsRoom room.old room.new result }
         ensures same { self.new.inner ≡ self.old.inner }
         ensures count { CountsUnread self.old.faults self.new.faults result }
@@ -111,7 +112,8 @@ impl Shelf for FailingShelf {
 
     fn make(&mut self, name: &str) -> Result<(), Failed>
         ensures calls { OneMore self.old.calls self.new.calls }
-        ensures listed { FailsNext self.old.calls → IsErr result × (self.new.inner ≡ self.old.inner) }
+        ensures listed { FailsNext self.old.calls
+            → IsErr result × (self.new.inner ≡ self.old.inner) }
         ensures other { ¬ FailsNext self.old.calls
             → IsMakeCall name.now self.old.inner self.new.inner result }
         ensures made { IsMade name.now (Some (files_of self.old.inner.entries))
@@ -127,7 +129,8 @@ impl Shelf for FailingShelf {
 
     fn put(&mut self, name: &str, bytes: &[u8]) -> Result<usize, Failed>
         ensures calls { OneMore self.old.calls self.new.calls }
-        ensures listed { FailsNext self.old.calls → IsErr result × (self.new.inner ≡ self.old.inner) }
+        ensures listed { FailsNext self.old.calls
+            → IsErr result × (self.new.inner ≡ self.old.inner) }
         ensures other { ¬ FailsNext self.old.calls
             → IsPutCall name.now bytes.now self.old.inner self.new.inner result }
         ensures appends { IsPut name.now bytes.now (Some (files_of self.old.inner.entries))

@@ -58,7 +58,8 @@ impl MemoryShelf {
 
     /// Gives the file of this name exactly these bytes, whether it was there or not.
     pub fn add(&mut self, name: &str, bytes: &[u8]) -> Result<(), NoMemory>
-        ensures ok { OnOk result (files_of self.new.entries ≡ with_file (files_of self.old.entries) name.now bytes.now) }
+        ensures ok { OnOk result
+            (files_of self.new.entries ≡ with_file (files_of self.old.entries) name.now bytes.now) }
         ensures err { OnErr result (self.new ≡ self.old) }
         ensures count { self.new.faults ≡ self.old.faults }
     {
@@ -76,7 +77,9 @@ impl MemoryShelf {
     }
 
     fn keep(&mut self, name: &str, content: Vec<u8>) -> Result<(), NoMemory>
-        ensures ok { OnOk result (files_of self.new.entries ≡ with_file (files_of self.old.entries) name.now content.items) }
+        ensures ok { OnOk result
+            (files_of self.new.entries
+            ≡ with_file (files_of self.old.entries) name.now content.items) }
         ensures err { OnErr result (self.new ≡ self.old) }
         ensures count { self.new.faults ≡ self.old.faults }
     {
@@ -97,7 +100,8 @@ impl MemoryShelf {
     }
 
     fn extend(&mut self, name: &str, bytes: &[u8]) -> Result<(), NoMemory>
-        ensures ok { OnOk result (files_of self.new.entries ≡ appended name.now bytes.now (files_of self.old.entries)) }
+        ensures ok { OnOk result
+            (files_of self.new.entries ≡ appended name.now bytes.now (files_of self.old.entries)) }
         ensures err { OnErr result (self.new ≡ self.old) }
         ensures count { self.new.faults ≡ self.old.faults }
     {
@@ -120,7 +124,8 @@ impl MemoryShelf {
     }
 
     fn position(&self, name: &str) -> Option<usize>
-        ensures { MatchOption result (IsNowhere self.now.entries name.now) (IsFirstAt self.now.entries name.now) }
+        ensures { MatchOption result (IsNowhere self.now.entries name.now)
+            (IsFirstAt self.now.entries name.now) }
     {
         for (index, file) in self.files.iter().enumerate() {
             if file.name.as_str() == name {
@@ -181,7 +186,8 @@ impl Shelf for MemoryShelf {
 /// Copies bytes from place `at` on to the front of the room, and answers how many.
 fn copy_from(bytes: &[u8], at: u64, room: &mut [u8]) -> usize
     ensures count { result ≡ min (length room.old) (length bytes.now - at) }
-    ensures room { room.new ≡ take (length room.old) (drop at bytes.now) ++ drop (length bytes.now - at) room.old }
+    ensures room { room.new
+        ≡ take (length room.old) (drop at bytes.now) ++ drop (length bytes.now - at) room.old }
 {
     let from = bytes.len().min(at as usize);
     let rest = &bytes[from..];

@@ -17,6 +17,7 @@ struct Input<F> {
     name: String,
     file: F,
     at: u64,
+    room: Vec<u8>,
 }
 
 impl<F: Read + Seek> Input<F> {
@@ -28,10 +29,11 @@ impl<F: Read + Seek> Input<F> {
         if self.at != at {
             self.at = self.file.seek(SeekFrom::Start(at))?;
         }
-        // a failed read may leave anything in the room that the system was given
-        let mut piece = [0; PIECE];
-        let asked = room.len().min(PIECE);
-        let count = self.file.read(&mut piece[..asked])?;
+        // a failed read may leave anything in the room that the system was given, so it is given
+        // one apart
+        let asked = room.len().min(self.room.len());
+        let piece = &mut self.room[..asked];
+        let count = self.file.read(piece)?;
         room[..count].copy_from_slice(&piece[..count]);
         self.at = self.at.saturating_add(count as u64);
         Ok(count)
@@ -46,9 +48,9 @@ struct Output<F> {
 
 /// The files of the system. It tells nothing of them, so clauses see its count of faults alone.
 ///
-/// The file of the last read stays open, and a read that goes on where that one ended needs no seek: so a
-/// pipe can be read. The file of the last make or put stays open too, and later puts of the same name
-/// append to it.
+/// The file of the last read stays open, and a read that goes on where that one ended needs no
+/// seek: so a pipe can be read. The file of the last make or put stays open too, and later puts of
+/// the same name append to it.
 #[derive(Drop)]
 pub struct HostShelf<R: Files + AllocGlobal> {
     rt: R,
@@ -96,11 +98,13 @@ impl<R: Files + AllocGlobal> HostShelf<R> {
 
     fn open_start(&self, name: &str) -> io::Result<Input<R::File>> {
         let owned = String::from_str(self.rt.alloc(), name)?;
+        let room = vec![in self.rt.alloc(); 0; PIECE]?;
         let file = fs::open(&self.rt, name)?;
         Ok(Input {
             name: owned,
             file,
             at: 0,
+            room,
         })
     }
 

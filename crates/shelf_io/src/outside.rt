@@ -20,13 +20,15 @@ pub enum Unread {
 /// A place where files are kept under names.
 ///
 /// `files` is, where the shelf tells it, the bytes of each file, and `faults` counts the calls that
-/// failed. No call changes whether the files are told, and a call that doesn't fail leaves the count.
+/// failed. No call changes whether the files are told, and a call that doesn't fail leaves the
+/// count.
 pub trait Shelf {
     ghost files: { Self → Option Files };
 
     ghost faults: { Self → ℕ };
 
-    // what a read tells, if anything: the shelf before it, the name, the place, the answer, the shelf after it
+    // what a read tells, if anything: the shelf before it, the name, the place, the answer, the
+    // shelf after it
     ghost read_gives: { Self → List ℕ → ℕ → Result ℕ Unread → Self → Type 0 } = { λ _ _ _ _ _. ⊤ };
 
     /// The number of bytes of the file.
@@ -35,9 +37,9 @@ pub trait Shelf {
         ensures same { files self.new ≡ files self.old }
         ensures count { CountsUnread (faults self.old) (faults self.new) result };
 
-    /// Puts the next bytes of the file, from byte `at` on, at the front of the room. Answers how many,
-    /// and 0 only where the room is empty or the file has no byte at `at`. What stands behind the bytes
-    /// read stays, and an error leaves the whole room.
+    /// Puts the next bytes of the file, from byte `at` on, at the front of the room. Answers how
+    /// many, and 0 only where the room is empty or the file has no byte at `at`. What stands behind
+    /// the bytes read stays, and an error leaves the whole room.
     fn read(&mut self, name: &str, at: u64, room: &mut [u8]) -> Result<usize, Unread>
         ensures bound { IfOk result (λ n. n ≤ length room.old) }
         ensures bytes { OnFile (files self.old) name.now (IsRead at room.new result) }
@@ -51,8 +53,9 @@ pub trait Shelf {
         ensures made { IsMade name.now (files self.old) (files self.new) result }
         ensures count { Counts (faults self.old) (faults self.new) result };
 
-    /// Appends the first bytes of a piece to the file, which is made first where it isn't there. Answers
-    /// how many, and 0 only for an empty piece. A failed call appends nothing, but may have made the file.
+    /// Appends the first bytes of a piece to the file, which is made first where it isn't there.
+    /// Answers how many, and 0 only for an empty piece. A failed call appends nothing, but may have
+    /// made the file.
     fn put(&mut self, name: &str, bytes: &[u8]) -> Result<usize, Failed>
         ensures bound { IfOk result (λ k. k ≤ length bytes.now) }
         ensures some { IfOk result (λ k. 0 < length bytes.now → 0 < k) }
@@ -62,15 +65,15 @@ pub trait Shelf {
 
 /// A place where text goes.
 ///
-/// `written` is, where the sink tells it, all that it has taken, and `faults` counts the puts that failed.
-/// No call changes whether the text is told, and a call that doesn't fail leaves the count.
+/// `written` is, where the sink tells it, all that it has taken, and `faults` counts the puts that
+/// failed. No call changes whether the text is told, and a call that doesn't fail leaves the count.
 pub trait TextSink {
     ghost written: { Self → Option (List ℕ) };
 
     ghost faults: { Self → ℕ };
 
-    /// Takes the first bytes of a piece. Answers how many, and 0 only for an empty piece. A failed call
-    /// takes nothing.
+    /// Takes the first bytes of a piece. Answers how many, and 0 only for an empty piece. A failed
+    /// call takes nothing.
     fn put(&mut self, bytes: &[u8]) -> Result<usize, Failed>
         ensures bound { IfOk result (λ k. k ≤ length bytes.now) }
         ensures some { IfOk result (λ k. 0 < length bytes.now → 0 < k) }

@@ -25,8 +25,8 @@ pub enum ReadAllFault {
 
 /// All bytes of a file of at most `limit` bytes. No file changes.
 ///
-/// Reads follow one another from the start on until one gives nothing, and none is made twice: the first
-/// error is the answer.
+/// Reads follow one another from the start on until one gives nothing, and none is made twice: the
+/// first error is the answer.
 pub fn read_all<F: Shelf>(
     alloc: Global,
     shelf: &mut F,

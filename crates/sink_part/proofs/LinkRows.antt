@@ -79,19 +79,6 @@ edges_taken edges i e inside at =
     ap (map (edge_data (λ name. name))) (take_more edges i e inside ∙ ap (λ (x : Edge ℕ). take i edges ++ x ∷ []) (sym at))
     ∙ map-append (edge_data (λ name. name)) (take i edges) (e ∷ [])
 
--- at the end the marks are those of the state
-pub marks_of_row : (rows : List (List EdgeData)) (weights : List ℕ) (from : ℕ) (row : List EdgeData) (marks : List Bool) → row ≡ get_or rows from []
-    → 0 < get_or weights from 0 → AreMarkedBy row weights (length rows) marks → AreMarkedTargets rows weights from marks
-marks_of_row rows weights from row marks is positive known = record {
-  size = known.size;
-  each = λ to. (
-    (λ marked.
-        let old = (known.each to).0 marked in
-        (old.0, (subst (λ (es : List EdgeData). Contains es (record { block = old.0; to = to })) is old.1, positive, old.2))),
-    (λ link. (known.each to).1 (link.0, subst (λ (es : List EdgeData). Contains es (record { block = link.0; to = to })) (sym is) link.1.0, link.1.2)),
-  );
-}
-
 links_ascend : (states : List ℕ) → IsAscending (λ s t. s < t) states → IsAscending IsEdgeBefore (map link_to states)
 links_ascend [] order = tt
 links_ascend (s ∷ []) order = tt

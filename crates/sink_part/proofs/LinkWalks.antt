@@ -1,13 +1,13 @@
 -- Walks along links and walks through states of positive weight.
-use Rattle.std.proofs.Common.{◌≡◌, ℕ, ◌+◌, List, [], ◌∷◌, ◌++◌, length, length-append, get_or, Bool, inl, inr, refl, ap, sym, ◌∙◌, subst, arith}
+use Rattle.std.proofs.Common.{◌≡◌, ℕ, ◌+◌, List, [], ◌∷◌, ◌++◌, length, length-append, Bool, inl, inr, refl, sym, ◌∙◌, subst, arith}
 use Rattle.std.proofs.lemmas.Bool.{cases_lt}
-use Rattle.std.proofs.lemmas.List.{get_or_append_left, get_or_push, get_or_default}
+use Rattle.std.proofs.lemmas.List.{get_or_append_left, get_or_push}
 use Rattle.symbol_base.specs.Walk.{IsWalk}
-use Rattle.label_graphs.specs.Graph.{EdgeData, HasEdge, IsGraph}
+use Rattle.label_graphs.specs.Graph.{EdgeData, HasEdge}
 use Rattle.label_graphs.specs.Reach.{IsReached, MarkReached}
 use Rattle.label_graphs.specs.Sink.{IsPositiveEdge, IsLedTo}
 use Rattle.sink_part.specs.inside.Links.{AreLinks}
-use Rattle.sink_part.specs.inside.Leads.{IsTable, AreLeads, AreReachedRows}
+use Rattle.sink_part.specs.inside.Leads.{AreLeads, AreReachedRows}
 
 -- a walk along links
 walk_led : (rows : List (List EdgeData)) (weights : List ℕ) (links : List (List EdgeData)) → AreLinks rows weights links → (blocks : List ℕ) (from to : ℕ)
@@ -43,17 +43,6 @@ reached_more links table more n marks known new joined =
             (subst (λ k. MarkReached links k marks) last new))
       ];
     })
-
-pub reached_table : (links : List (List EdgeData)) (table : List (List Bool)) (n : ℕ) → IsGraph links → AreReachedRows links table n → n ≡ length links → IsTable table
-reached_table links table n graph known all =
-    let size = known.size in
-    record {
-      count = (let count = graph.count in omega (arith, count, size, all));
-      square = λ k d inside.
-          let wide = (known.each k (omega (arith, inside, size))).size in
-          let same : length (get_or table k d) ≡ length (get_or table k []) = ap (λ (ms : List Bool). length ms) (get_or_default table k d [] inside) in
-          omega (arith, wide, same, size, all);
-    }
 
 -- what is reached along links is what is led to
 pub reached_leads : (rows : List (List EdgeData)) (weights : List ℕ) (links : List (List EdgeData)) (table : List (List Bool)) → AreLinks rows weights links

@@ -31,17 +31,7 @@ no_more_items weights marks n =
     let most = rank_most (is_marked marks) n in
     omega (arith, size, most)
 
--- the marked states themselves
-pub states_more : (marks : List Bool) (n : ℕ) → get_or marks n false ≡ true → passing (is_marked marks) (n + 1) ≡ passing (is_marked marks) n ++ n ∷ []
-states_more marks n passes = passing_more (is_marked marks) n passes
-
-pub states_same : (marks : List Bool) (n : ℕ) → get_or marks n false ≡ false → passing (is_marked marks) (n + 1) ≡ passing (is_marked marks) n
-states_same marks n fails = passing_same (is_marked marks) n fails
-
-pub no_more_states : (marks : List Bool) (n : ℕ) → length (passing (is_marked marks) n) ≤ n
-no_more_states marks n = rank_most (is_marked marks) n
-
--- links to them
+-- links to the marked states
 pub links_more : (marks : List Bool) (n : ℕ) → get_or marks n false ≡ true
     → map link_to (passing (is_marked marks) (n + 1)) ≡ map link_to (passing (is_marked marks) n) ++ link_to n ∷ []
 links_more = mapped_more link_to

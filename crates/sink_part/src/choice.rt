@@ -18,7 +18,8 @@ struct Candidate {
 pub fn lightest(weights: &Weights, leads: &Leads) -> Option<u32>
     requires { length weights.now ≡ length leads.now }
     ensures some { IfSome result (IsLightest weights.now leads.now (length leads.now)) }
-    ensures none { IfNone result ((state : ℕ) → state < length leads.now → IsEnd weights.now leads.now state → ⊥) }
+    ensures none { IfNone result
+        ((state : ℕ) → state < length leads.now → IsEnd weights.now leads.now state → ⊥) }
 {
     let mut least: Option<Candidate> = None;
     for state in 0..leads.states() {

@@ -56,7 +56,8 @@ fn marked_targets(
 /// A link to each marked state.
 fn links_to(alloc: Global, marks: &[bool]) -> Result<Vec<Edge<CoverName>>, NoMemory>
     requires { length marks.now < 2 ^ 32 }
-    ensures { IfOk result (λ row. map (edge_data (λ name. name)) row.items ≡ map link_to (marked_states marks.now)) }
+    ensures { IfOk result (λ row.
+        map (edge_data (λ name. name)) row.items ≡ map link_to (marked_states marks.now)) }
 {
     let mut row = Vec::new(alloc);
     for (to, mark) in marks.iter().enumerate() {

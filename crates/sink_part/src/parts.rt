@@ -1,23 +1,23 @@
-ghost use Rattle.std.specs.Prelude.{◌≡◌, ◌≤◌, IfOk, length, map, slice_index};
+ghost use Rattle.std.specs.Prelude.{◌≡◌, ◌<◌, ◌≤◌, ◌^◌, IfOk, length, map, slice_index};
 ghost use Rattle.label_graphs.specs.Graph.{IsGraph};
 ghost use Rattle.label_graphs.specs.Kept.{marked_states};
 ghost use Rattle.label_graphs.specs.Power.{edge_count};
 ghost use Rattle.label_graphs.specs.Refinement.{KeepsEdges};
 ghost use Rattle.label_graphs.specs.Sink.{AreEdgesAmong, IsLeastSink};
 ghost use Rattle.label_graphs.specs.Vector.{IsNonzero, MeetsInequality, target_sum};
-ghost use Rattle.label_graphs.specs.Views.{edge_data};
 ghost use Rattle.sink_part.specs.inside.Parts.{IsMarkedPart};
 
 use crate::choice::lightest;
 use crate::leading::all_leads;
-use label_graphs::{Edge, Graph, Refinement, Weights, keep};
+use label_graphs::{Graph, Refinement, Weights, keep, marked_names};
 use std::alloc::Global;
-use symbol_base::{CoverName, Name, NoMemory, SplitName};
+use symbol_base::{CoverName, NoMemory, SplitName};
 
 /// A sink of a graph, as a graph of its own.
 #[derive(Debug, Drop)]
 pub struct SinkGraph {
-    /// The states of the sink in ascending order, with new numbers from 0, and the edges among them.
+    /// The states of the sink in ascending order, with new numbers from 0, and the edges among
+    /// them.
     pub graph: Graph<SplitName>,
     /// The weights of these states.
     pub weights: Weights,
@@ -25,8 +25,8 @@ pub struct SinkGraph {
     pub parents: Refinement<SplitName, CoverName>,
 }
 
-/// The irreducible sink that a design begins with (Marcus, Roth, Siegel, chapter 2: irreducible sinks;
-/// chapter 5: their use in state splitting).
+/// The irreducible sink that a design begins with (Marcus, Roth, Siegel, chapter 2: irreducible
+/// sinks; chapter 5: their use in state splitting).
 ///
 /// A sink is a set of states of positive weight, each of which leads to each through such states,
 /// and from which no edge leads to such a state outside. Of all sinks the one with the least sum of
@@ -48,7 +48,8 @@ pub fn sink(
     ensures graph { IfOk result (λ s. IsGraph s.graph) }
     ensures size { IfOk result (λ s. length s.graph ≡ length s.parents) }
     ensures edges { IfOk result (λ s. AreEdgesAmong graph.now s.parents s.graph) }
-    ensures weights { IfOk result (λ s. s.weights ≡ map (λ state. slice_index weights.now state) s.parents) }
+    ensures weights { IfOk result (λ s.
+        s.weights ≡ map (λ state. slice_index weights.now state) s.parents) }
     ensures parents { IfOk result (λ s. KeepsEdges s.graph graph.now s.parents) }
     ensures inequality { IfOk result (λ s. MeetsInequality (target_sum s.graph) n s.weights) }
     ensures fewer { IfOk result (λ s. edge_count s.graph ≤ edge_count graph.now) }
@@ -69,20 +70,23 @@ fn marked_part(
 ) -> Result<SinkGraph, NoMemory>
     requires sizes { length weights.now ≡ length graph.now }
     requires marks { length marks.now ≡ length graph.now }
-    ensures { IfOk result (λ s. IsMarkedPart graph.now weights.now marks.now s.graph s.weights s.parents) }
+    requires count { length marks.now < 2 ^ 32 }
+    ensures { IfOk result (λ s.
+        IsMarkedPart graph.now weights.now marks.now s.graph s.weights s.parents) }
 {
     let kept = keep(alloc, graph, marks)?;
     Ok(SinkGraph {
-        graph: renamed(alloc, &kept)?,
+        graph: kept.renamed(alloc)?,
         weights: marked_weights(alloc, weights, marks)?,
-        parents: marked_names(alloc, graph.states(), marks)?,
+        parents: Refinement::from_parents(marked_names(alloc, marks)?),
     })
 }
 
 /// The weights of the marked states.
 fn marked_weights(alloc: Global, weights: &Weights, marks: &[bool]) -> Result<Weights, NoMemory>
     requires { length marks.now ≡ length weights.now }
-    ensures { IfOk result (λ list. list ≡ map (λ state. slice_index weights.now state) (marked_states marks.now)) }
+    ensures { IfOk result (λ list.
+        list ≡ map (λ state. slice_index weights.now state) (marked_states marks.now)) }
 {
     let mut list = Vec::new(alloc);
     for state in 0..weights.len() {
@@ -91,51 +95,4 @@ fn marked_weights(alloc: Global, weights: &Weights, marks: &[bool]) -> Result<We
         }
     }
     Ok(Weights::from_list(list))
-}
-
-/// The marked ones of the states, by their names.
-#[tactic(auto, using(crate::proofs::Passing::states_more, crate::proofs::Passing::states_same, crate::proofs::Passing::no_more_states))]
-fn marked_names(
-    alloc: Global,
-    states: u32,
-    marks: &[bool],
-) -> Result<Refinement<SplitName, CoverName>, NoMemory>
-    requires { length marks.now ≡ states }
-    ensures { IfOk result (λ parents. parents ≡ marked_states marks.now) }
-{
-    let mut names = Vec::new(alloc);
-    for state in 0..states {
-        if marks[state as usize] {
-            names.push(CoverName::at(state))?;
-        }
-    }
-    Ok(Refinement::from_parents(names))
-}
-
-/// The same graph, in which other names stand for the states.
-fn renamed(alloc: Global, graph: &Graph<CoverName>) -> Result<Graph<SplitName>, NoMemory>
-    ensures same { IfOk result (λ renamed. renamed ≡ graph.now) }
-    ensures kept { IsGraph graph.now }
-{
-    let states = graph.states();
-    let mut rows = Vec::with_capacity(alloc, states as usize)?;
-    for state in 0..states {
-        rows.push(renamed_edges(alloc, graph.row(CoverName::at(state)))?)?;
-    }
-    Ok(Graph::from_rows(rows))
-}
-
-/// The same edges, in which other names stand for the states.
-fn renamed_edges(alloc: Global, edges: &[Edge<CoverName>]) -> Result<Vec<Edge<SplitName>>, NoMemory>
-    ensures { IfOk result (λ renamed. map (edge_data (λ name. name)) renamed.items
-        ≡ map (edge_data (λ name. name)) edges.now) }
-{
-    let mut renamed = Vec::with_capacity(alloc, edges.len())?;
-    for edge in edges {
-        renamed.push(Edge {
-            block: edge.block,
-            to: SplitName::at(edge.to.index()),
-        })?;
-    }
-    Ok(renamed)
 }

@@ -24,7 +24,8 @@ pub fn spread(graph: &Graph<SplitName>, weights: &Weights) -> u64
 fn target_weight(edges: &[Edge<SplitName>], weights: &Weights) -> u64
     requires inside { All (λ edge. edge.to < length weights.now) edges.now }
     requires few { length edges.now ≤ 2 ^ 31 }
-    ensures sum { result ≡ sum (map (λ e. slice_index weights.now e.to) (map (edge_data (λ name. name)) edges.now)) }
+    ensures sum { result
+        ≡ sum (map (λ e. slice_index weights.now e.to) (map (edge_data (λ name. name)) edges.now)) }
     ensures small { result ≤ 2 ^ 32 * length edges.now }
 {
     let mut total = 0;

@@ -16,7 +16,8 @@ fn edge<N: Name>(block: u64, to: u32) -> Edge<N>
     }
 }
 
-/// From state 0 edges lead to a cycle of 1 and 2 and to one of 3 and 4, and from both back to 0 by 5.
+/// From state 0 edges lead to a cycle of 1 and 2 and to one of 3 and 4, and from both back to 0 by
+/// 5.
 fn two_cycles(alloc: Global) -> Result<Graph<CoverName>, NoMemory> {
     let root = vec![in alloc; edge(0, 1), edge(1, 3)]?;
     let one = vec![in alloc; edge(0, 2), edge(1, 2)]?;
@@ -55,7 +56,8 @@ fn assert_states(rt: &impl Abort, part: &SinkGraph, expected: &[(u32, u32)]) {
     }
 }
 
-/// Of weights that are above 0 at state 1: the states of the sink with their weights, and its edges.
+/// Of weights that are above 0 at state 1: the states of the sink with their weights, and its
+/// edges.
 fn assert_sink(
     rt: &impl Abort,
     alloc: Global,

@@ -17,14 +17,16 @@ use label_graphs::composed_refinements_keep_edges;
 
 /// A graph has at most one chain.
 pub fn a_graph_has_one_chain()
-    ensures { (n : ℕ) (g : WeightedData) (chain other : ChainData) → IsChain n g chain → IsChain n g other → chain ≡ other }
+    ensures { (n : ℕ) (g : WeightedData) (chain other : ChainData) → IsChain n g chain
+        → IsChain n g other → chain ≡ other }
 {
     one_round_follows();
 }
 
 /// What one round keeps many rounds keep, and each edge at their end is an edge at their beginning.
 pub fn rounds_keep_weights()
-    ensures { (n : ℕ) (g h : WeightedData) (rounds : List (List SplitData)) (parents : List ℕ) → 1 ≤ n
+    ensures { (n : ℕ) (g h : WeightedData) (rounds : List (List SplitData)) (parents : List ℕ)
+        → 1 ≤ n
         → IsWeighted n g → RoundsLead n g rounds h parents
         → IsWeighted n h × (sum h.weights ≡ sum g.weights)
         × (spread h.rows h.weights ≡ spread g.rows g.weights)
@@ -37,7 +39,8 @@ pub fn rounds_keep_weights()
 
 /// There are no more rounds than the weights add up to, less the number of states.
 pub fn rounds_are_few()
-    ensures { (n : ℕ) (g h : WeightedData) (rounds : List (List SplitData)) (parents : List ℕ) → 1 ≤ n
+    ensures { (n : ℕ) (g h : WeightedData) (rounds : List (List SplitData)) (parents : List ℕ)
+        → 1 ≤ n
         → IsWeighted n g → RoundsLead n g rounds h parents
         → length rounds + length g.rows ≤ sum g.weights }
 {
@@ -46,10 +49,11 @@ pub fn rounds_are_few()
     graphs_are_no_larger();
 }
 
-/// Each split makes one state more, so there are no more of them than the weights add up to, less the number of
-/// states.
+/// Each split makes one state more, so there are no more of them than the weights add up to, less
+/// the number of states.
 pub fn splits_are_few()
-    ensures { (n : ℕ) (g h : WeightedData) (rounds : List (List SplitData)) (parents : List ℕ) → 1 ≤ n
+    ensures { (n : ℕ) (g h : WeightedData) (rounds : List (List SplitData)) (parents : List ℕ)
+        → 1 ≤ n
         → IsWeighted n g → RoundsLead n g rounds h parents
         → split_count rounds + length g.rows ≤ sum g.weights }
 {
@@ -57,9 +61,11 @@ pub fn splits_are_few()
     graphs_are_no_larger();
 }
 
-/// In the last graph of a chain each state has at least n edges, since no edge of a kept state leads outside.
+/// In the last graph of a chain each state has at least n edges, since no edge of a kept state
+/// leads outside.
 pub fn kept_states_have_edges_enough()
-    ensures edges { (n : ℕ) (g : WeightedData) (chain : ChainData) → 1 ≤ n → IsWeighted n g → IsChain n g chain
+    ensures edges { (n : ℕ) (g : WeightedData) (chain : ChainData) → 1 ≤ n → IsWeighted n g
+        → IsChain n g chain
         → All (λ row. n ≤ length row) chain.last }
     ensures closed { (n : ℕ) (g : WeightedData) (chain : ChainData) → 1 ≤ n → IsWeighted n g
         → (is : IsChain n g chain) → (state block to : ℕ) → Contains chain.kept state
@@ -70,7 +76,8 @@ pub fn kept_states_have_edges_enough()
 
 /// Each edge of the last graph of a chain is one of the sink, between the parents of its states.
 pub fn a_chain_keeps_edges()
-    ensures { (n : ℕ) (g : WeightedData) (chain : ChainData) → 1 ≤ n → IsWeighted n g → IsChain n g chain
+    ensures { (n : ℕ) (g : WeightedData) (chain : ChainData) → 1 ≤ n → IsWeighted n g
+        → IsChain n g chain
         → KeepsEdges chain.last g.rows chain.parents }
 {
     rounds_keep_weights();
@@ -79,7 +86,8 @@ pub fn a_chain_keeps_edges()
 
 /// In the last graph of a chain the next edge is told by one block more for each round.
 pub fn a_chain_looks_ahead()
-    ensures { (n a r : ℕ) (g : WeightedData) (chain : ChainData) → 1 ≤ n → IsWeighted n g → IsChain n g chain
+    ensures { (n a r : ℕ) (g : WeightedData) (chain : ChainData) → 1 ≤ n → IsWeighted n g
+        → IsChain n g chain
         → HasWindow g.rows a r → HasWindow chain.last a (r + length chain.rounds) }
 {
     rounds_keep_weights();

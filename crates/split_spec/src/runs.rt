@@ -4,7 +4,8 @@ ghost use Rattle.split_spec.specs.Run.{AgreeAt, IsLightestFirst, IsRun};
 
 /// A row's edges stand in one way with those to the lightest targets first.
 pub fn a_row_has_one_order()
-    ensures { (x : List ℕ) (row one other : List EdgeData) → IsLightestFirst x row one → IsLightestFirst x row other
+    ensures { (x : List ℕ) (row one other : List EdgeData) → IsLightestFirst x row one
+        → IsLightestFirst x row other
         → one ≡ other }
 {}
 
@@ -14,8 +15,8 @@ pub fn a_row_has_one_run()
         → IsRun n x row other z → (run ≡ other) × (y ≡ z) }
 {}
 
-/// Among the sums of the weights that the first 0 to n edges lead to two agree modulo n: of fewer edges than n the
-/// sum of all stands for each longer one.
+/// Among the sums of the weights that the first 0 to n edges lead to two agree modulo n: of fewer
+/// edges than n the sum of all stands for each longer one.
 pub fn residues_repeat()
     ensures { (n : ℕ) (x : List ℕ) (edges : List EdgeData) → 1 ≤ n → (i j : ℕ) × (i < j) × (j ≤ n)
         × AgreeAt n x edges i j }

@@ -13,7 +13,6 @@ pub mod SplitsFound
 pub mod PartEdges
 pub mod PartNumbers
 pub mod PartWeights
-pub mod StageLists
 pub mod StageLower
 pub mod StageKept
 pub mod StageRound

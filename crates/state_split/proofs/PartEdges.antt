@@ -4,7 +4,7 @@ use Rattle.std.specs.Prelude.{◌↔◌, Bool, true, false, Contains, All, IsTru
 use Rattle.std.proofs.Math.Bool.{not}
 use Rattle.std.proofs.lemmas.Bool.{cases_lt, cases_eq}
 use Rattle.std.proofs.lemmas.List.{get_or-map, length-map, map-append, get_or_append_left, get_or-append-add}
-use Rattle.std.proofs.lemmas.List.{take_more, take_all, take-map, length-take-le, get_or-take}
+use Rattle.std.proofs.lemmas.List.{take_more, take-map, length-take-le, get_or-take}
 use Rattle.std.proofs.lemmas.List.Elements.{All-contains, All-map, Contains-get_or, Contains-push, Contains-append_left, Contains-push_cases}
 use Rattle.symbol_base.specs.Ascending.{IsAscending}
 use Rattle.label_graphs.specs.declared.graph.Edge.{Edge}
@@ -267,8 +267,3 @@ edge_left row i e P old new known low there same out =
     subst (λ (es : List EdgeData). ArePicked es P (edges_data new)) (sym (taken_more row i e low there))
     (subst (λ (es : List (Edge ℕ)). ArePicked (edges_data (take i row) ++ edge_data (λ name. name) e ∷ []) P (edges_data es)) (sym same)
     (picked_without (edges_data (take i row)) (edges_data old) P (edge_data (λ name. name) e) known out))
-
--- what is picked from all edges of a row
-pub all_picked : (row : List (Edge ℕ)) (i : ℕ) (P : EdgeData → Type 0) (edges : List EdgeData) → ArePicked (edges_data (take i row)) P edges
-    → length row ≤ i → ArePicked (edges_data row) P edges
-all_picked row i P edges known end = subst (λ (es : List (Edge ℕ)). ArePicked (edges_data es) P edges) (take_all i row end) known

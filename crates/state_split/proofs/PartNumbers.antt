@@ -1,5 +1,5 @@
 -- The numbers of parts: the states, and behind them the second parts in the order of the splits.
-use Rattle.std.proofs.Common.{◌≡◌, ℕ, ◌+◌, ◌<◌, ◌≤◌, List, [], ◌∷◌, ◌++◌, length, get_or, set, map, take, inl, inr, ap, sym, ◌∙◌, subst, arith, length-append}
+use Rattle.std.proofs.Common.{◌≡◌, ℕ, ◌+◌, ◌<◌, ◌≤◌, List, [], ◌∷◌, ◌++◌, length, get_or, set, map, take, inl, inr, ap, sym, ◌∙◌, subst, arith, append-nil, length-append}
 use Rattle.std.specs.Prelude.{All, Option, Some, None, IfSome, IfNone, slice_get}
 use Rattle.std.specs.List.{range_with_len}
 use Rattle.std.proofs.Math.Seq.{get_or-append_seam}
@@ -23,6 +23,10 @@ range_more n =
 -- each of the first states is its own parent
 pub own_more : (n : ℕ) (parents more : List ℕ) → parents ≡ range_with_len 0 n → more ≡ parents ++ n ∷ [] → more ≡ range_with_len 0 (n + 1)
 own_more n parents more known pushed = pushed ∙ ap (λ (ns : List ℕ). ns ++ n ∷ []) known ∙ sym (range_more n)
+
+-- and of states that aren't split there are no other parts
+pub parents_of_whole : (states : ℕ) → part_parents states [] ≡ range_with_len 0 states
+parents_of_whole states = append-nil (range_with_len 0 states)
 
 -- there is no more than one parent for each state and each split
 pub parents_count : (states k : ℕ) (splits : List SplitData) (parents : List ℕ) → parents ≡ part_parents states (take k splits)

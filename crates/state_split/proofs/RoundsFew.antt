@@ -1,16 +1,10 @@
 -- Bounds of what rounds make: few splits, light states, and more states by each round.
 use Rattle.std.proofs.Common.{ℕ, ◌+◌, ◌<◌, ◌≤◌, List, [], ◌∷◌, length, arith}
 use Rattle.std.specs.Prelude.{All}
-use Rattle.std.specs.List.{sum}
 use Rattle.std.proofs.lemmas.List.Elements.{All-head, All-tail}
-use Rattle.std.proofs.lemmas.List.Sums.{get_or-le-sum_by}
 use Rattle.symbol_base.specs.Ascending.{IsAscending}
 use Rattle.split_spec.specs.Round.{SplitData}
 use Rattle.state_split.specs.inside.Parts.{AreSplitsOf}
-
--- each weight is at most the sum of all
-pub weights_at_most : (bound : ℕ) (weights : List ℕ) → sum weights ≤ bound → All (λ weight. weight ≤ bound) weights
-weights_at_most bound weights most = λ k d inside. (let here = get_or-le-sum_by (λ (w : ℕ). w) weights k d inside in omega (arith, here, most))
 
 few_from : (m : ℕ) (split : SplitData) (splits : List SplitData) → IsAscending (λ (a b : SplitData). a.state < b.state) (split ∷ splits)
     → All (λ (s : SplitData). s.state < m) (split ∷ splits) → split.state + length (split ∷ splits) ≤ m

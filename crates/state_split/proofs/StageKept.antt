@@ -1,5 +1,5 @@
 -- The states of the greatest weight: how they are marked, and what is kept of a graph.
-use Rattle.std.proofs.Common.{◌≡◌, ◌↔◌, ℕ, ◌+◌, ◌<◌, ◌≤◌, List, [], ◌∷◌, ◌++◌, length, get_or, map, eqb, Bool, true, false, refl, ap, sym, ◌∙◌, subst, arith}
+use Rattle.std.proofs.Common.{◌≡◌, ◌↔◌, ℕ, ◌<◌, ◌≤◌, List, length, get_or, map, eqb, Bool, true, false, refl, ap, sym, ◌∙◌, subst, arith}
 use Rattle.std.specs.Prelude.{All, Contains}
 use Rattle.std.proofs.lemmas.Bool.{eqb-true, eq-eqb}
 use Rattle.std.proofs.lemmas.List.{get_or-map}
@@ -8,8 +8,7 @@ use Rattle.symbol_base.proofs.AscendingNumbers.{filter_ascends}
 use Rattle.label_graphs.specs.Graph.{EdgeData, IsGraph}
 use Rattle.label_graphs.specs.Kept.{IsKept, marked_states}
 use Rattle.label_graphs.specs.Refinement.{parents_of}
-use Rattle.label_graphs.specs.inside.Numbers.{is_marked, passing}
-use Rattle.label_graphs.proofs.Ranks.{passing_more, passing_same}
+use Rattle.label_graphs.specs.inside.Numbers.{is_marked}
 use Rattle.sink_part.proofs.LinkRows.{marked_inside, marked_listed, listed_marked}
 use Rattle.split_spec.specs.Weighted.{WeightedData}
 use Rattle.split_spec.specs.Round.{SplitData}
@@ -37,18 +36,6 @@ marks_tell x most marks are greatest least state inside =
       (λ marked. both.0 (eqb-true (get_or x state 0) most (sym at ∙ marked))),
       (λ heaviest. at ∙ eq-eqb (get_or x state 0) most (both.1 heaviest)),
     )
-
--- one more marked state is named
-pub named_more : (marks : List Bool) (n state : ℕ) (names more : List ℕ) → names ≡ passing (is_marked marks) n → state ≡ n → get_or marks n false ≡ true
-    → more ≡ names ++ state ∷ [] → more ≡ passing (is_marked marks) (n + 1)
-named_more marks n state names more known at marked joined =
-    joined ∙ ap (λ (xs : List ℕ). xs ++ state ∷ []) known ∙ ap (λ (k : ℕ). passing (is_marked marks) n ++ k ∷ []) at
-    ∙ sym (passing_more (is_marked marks) n marked)
-
--- and one that isn't marked is not
-pub named_same : (marks : List Bool) (n : ℕ) (names : List ℕ) → names ≡ passing (is_marked marks) n → get_or marks n false ≡ false
-    → names ≡ passing (is_marked marks) (n + 1)
-named_same marks n names known other = known ∙ sym (passing_same (is_marked marks) n other)
 
 -- marks that tell which states are of the greatest weight
 abbrev pub MarkHeaviest : List ℕ → List Bool → Type 0

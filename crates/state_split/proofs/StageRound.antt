@@ -1,5 +1,5 @@
 -- One round: what its splits give, and that the graph, the weights and the parents of the parts are those that it makes.
-use Rattle.std.proofs.Common.{◌≡◌, ◌↔◌, ℕ, ◌+◌, ◌<◌, List, [], length, get_or, ap, sym, subst, arith}
+use Rattle.std.proofs.Common.{◌≡◌, ◌↔◌, ℕ, ◌+◌, ◌<◌, List, length, get_or, ap, sym, subst, arith}
 use Rattle.std.specs.Prelude.{All, Contains}
 use Rattle.std.proofs.lemmas.List.{get_or_default}
 use Rattle.std.proofs.lemmas.List.Elements.{Contains-get_or}
@@ -11,7 +11,7 @@ use Rattle.split_spec.proofs.EdgeEnds.{source_inside}
 use Rattle.split_spec.proofs.RoundParts.{parents_size, parent_inside}
 use Rattle.state_split.specs.inside.Parts.{AreSplitsOf, ArePartWeights, part_parents}
 use Rattle.state_split.specs.inside.Rows.{AreRowsOfParts, parent_edge}
-use Rattle.state_split.specs.inside.Splits.{AreSplitsBelow, HasRun}
+use Rattle.state_split.specs.inside.Splits.{AreSplitsBelow}
 
 -- all splits of a graph
 abbrev pub AreSplits : ℕ → WeightedData → List SplitData → Type 0
@@ -23,16 +23,6 @@ splits_of_states n g splits known = record {
   order = known.order;
   inside = λ k d inside. ((known.exact (get_or splits k d)).0 (Contains-get_or splits k d inside)).0;
 }
-
--- each has the run of its row
-pub runs_of_splits : (n : ℕ) (g : WeightedData) (splits : List SplitData) → AreSplits n g splits
-    → All (λ (split : SplitData). HasRun g.weights (get_or g.rows split.state []) split) splits
-runs_of_splits n g splits known = λ k d inside. (n, ((known.exact (get_or splits k d)).0 (Contains-get_or splits k d inside)).1.run)
-
--- and its first part weighs less than the state
-pub splits_are_lighter : (n : ℕ) (g : WeightedData) (splits : List SplitData) → AreSplits n g splits
-    → All (λ (split : SplitData). split.y < get_or g.weights split.state 0) splits
-splits_are_lighter n g splits known = λ k d inside. ((known.exact (get_or splits k d)).0 (Contains-get_or splits k d inside)).1.lighter
 
 -- an edge leaves a part, of which there are as many as states and splits
 leaves_inside : (rows : List (List EdgeData)) (splits : List SplitData) (part : ℕ) (e : EdgeData) → ((split : SplitData) → Contains splits split → split.state < length rows)

@@ -10,7 +10,7 @@ ghost use Rattle.state_split.specs.Views.{weighted};
 use crate::order::greatest;
 use crate::round::{Round, round_of};
 use crate::stage::{Stage, first_stage, needs_round, next_stage};
-use label_graphs::{Graph, Refinement, Weights, compose, keep};
+use label_graphs::{Graph, Refinement, Weights, keep, marked_names};
 use sink_part::SinkGraph;
 use split_spec::{graphs_are_no_larger, rounds_are_few, rounds_keep_weights, splits_are_few};
 use std::alloc::Global;
@@ -30,15 +30,18 @@ pub struct Chain {
     pub parents: Refinement<SplitName, SplitName>,
 }
 
-/// Splits the states of a sink in rounds, until no state of the greatest weight has an edge to a lighter one.
+/// Splits the states of a sink in rounds, until no state of the greatest weight has an edge to a
+/// lighter one.
 pub fn split_all(alloc: Global, sink: SinkGraph, p: u32) -> Result<Chain, NoMemory>
     requires p_one { 1 ≤ p }
     requires p_eight { p ≤ 8 }
     requires weighted { IsWeighted (2 ^ p) (weighted sink.graph sink.weights) }
     requires light { sum sink.weights ≤ 512 }
-    ensures chain { IfOk result (λ chain. IsChain (2 ^ p) (weighted sink.graph sink.weights) (chain_data chain)) }
+    ensures chain { IfOk result (λ chain.
+        IsChain (2 ^ p) (weighted sink.graph sink.weights) (chain_data chain)) }
     ensures sink { IfOk result (λ chain. chain.sink ≡ sink) }
-    ensures few { IfOk result (λ chain. split_count chain.rounds.items + length chain.sink.graph ≤ 512) }
+    ensures few { IfOk result (λ chain.
+        split_count chain.rounds.items + length chain.sink.graph ≤ 512) }
 {
     splits_are_few();
     let (rounds, stage) = all_rounds(alloc, &sink, 1 << p)?;
@@ -61,7 +64,8 @@ fn all_rounds(alloc: Global, sink: &SinkGraph, n: u32) -> Result<(Vec<Round>, St
     requires n_most { n ≤ 256 }
     requires weighted { IsWeighted n (weighted sink.now.graph sink.now.weights) }
     requires light { sum sink.now.weights ≤ 512 }
-    ensures rounds { IfOk result (λ made. RoundsLead n (weighted sink.now.graph sink.now.weights) made.0.items
+    ensures rounds { IfOk result (λ made.
+        RoundsLead n (weighted sink.now.graph sink.now.weights) made.0.items
         (weighted made.1.graph made.1.weights) made.1.parents) }
     ensures done { IfOk result (λ made. NeedsRound (weighted made.1.graph made.1.weights) → ⊥) }
     ensures weights { IfOk result (λ made. length made.1.weights ≡ length made.1.graph) }
@@ -92,22 +96,6 @@ fn heaviest_states(alloc: Global, weights: &Weights) -> Result<Vec<bool>, NoMemo
         marks.push(weights.at(state) == most)?;
     }
     Ok(marks)
-}
-
-/// The names of the marked states.
-fn marked_names(alloc: Global, marks: &[bool]) -> Result<Vec<SplitName>, NoMemory>
-    requires { length marks.now < 2 ^ 32 }
-    ensures { IfOk result (λ names. names.items ≡ marked_states marks.now) }
-{
-    let mut names = Vec::new(alloc);
-    let mut state = 0;
-    for mark in marks {
-        if *mark {
-            names.push(SplitName::at(state))?;
-        }
-        state += 1;
-    }
-    Ok(names)
 }
 
 /// The parents of the states that are kept.

@@ -1,5 +1,5 @@
-//! State splitting in rounds (Adler, Coppersmith, Hassner 1983): from a sink with weights to a graph in
-//! which the states of the greatest weight have edges enough for a code.
+//! State splitting in rounds (Adler, Coppersmith, Hassner 1983): from a sink with weights to a
+//! graph in which the states of the greatest weight have edges enough for a code.
 #![tactic(auto)]
 
 mod chain;

@@ -4,13 +4,22 @@ ghost use Rattle.label_graphs.specs.Graph.{EdgeData, IsEdgeBefore};
 ghost use Rattle.label_graphs.specs.Views.{edge_data};
 ghost use Rattle.split_spec.specs.Run.{IsLighter};
 ghost use Rattle.state_split.specs.Views.{edges_data};
-ghost use Rattle.state_split.specs.inside.Parts.{AreSecondParts, AreSplitsOf, ArePartWeights, ArePicked, part_parents};
+ghost use Rattle.state_split.specs.inside.Parts.{AreSecondParts, AreSplitsOf, ArePartWeights, ArePicked, IsTakenBy, part_parents};
 ghost use Rattle.state_split.specs.inside.Splits.{HasRun};
 
 use crate::round::Split;
 use label_graphs::{Edge, Refinement, Weights};
 use std::alloc::Global;
 use symbol_base::{Name, NoMemory, SplitName};
+
+/// The two parts of a state that is split.
+#[derive(Clone, Copy, Debug)]
+pub enum Part {
+    /// The part that takes the edges of the run.
+    First,
+    /// The part that takes the other edges.
+    Second,
+}
 
 /// For each state the number of its second part, where it is split.
 pub fn second_parts(
@@ -32,7 +41,8 @@ pub fn second_parts(
     Ok(parts)
 }
 
-/// The parent of each part: a state's own number for the first part, and then the states that are split.
+/// The parent of each part: a state's own number for the first part, and then the states that are
+/// split.
 pub fn parents_of_parts(
     alloc: Global,
     states: u32,
@@ -76,52 +86,45 @@ pub fn weights_of_parts(
     Ok(Weights::from_list(list))
 }
 
-/// The edges of a row that are of the run, in the row's order.
-pub fn edges_of_run(
+/// The edges of a state's row that a part of it takes, in the row's order.
+pub fn edges_of_part(
     alloc: Global,
     row: &[Edge<SplitName>],
     weights: &Weights,
     split: &Split,
+    part: Part,
 ) -> Result<Vec<Edge<SplitName>>, NoMemory>
     requires inside { All (λ edge. edge.to < length weights.now) row.now }
     requires order { IsAscending IsEdgeBefore (edges_data row.now) }
     requires run { HasRun weights.now (edges_data row.now) split.now }
     ensures { IfOk result (λ edges.
-        ArePicked (edges_data row.now) (Contains split.now.run) (edges_data edges.items)) }
-{
-    let mut edges = Vec::with_capacity(alloc, split.run.len())?;
-    for edge in row {
-        if is_in_run(edge, weights, split) {
-            edges.push(*edge)?;
-        }
-    }
-    Ok(edges)
-}
-
-/// The edges of a row that are none of the run.
-pub fn edges_of_rest(
-    alloc: Global,
-    row: &[Edge<SplitName>],
-    weights: &Weights,
-    split: &Split,
-) -> Result<Vec<Edge<SplitName>>, NoMemory>
-    requires inside { All (λ edge. edge.to < length weights.now) row.now }
-    requires order { IsAscending IsEdgeBefore (edges_data row.now) }
-    requires run { HasRun weights.now (edges_data row.now) split.now }
-    ensures { IfOk result (λ edges.
-        ArePicked (edges_data row.now) (λ e. Contains split.now.run e → ⊥) (edges_data edges.items)) }
+        ArePicked (edges_data row.now) (IsTakenBy part split.now.run) (edges_data edges.items)) }
 {
     let mut edges = Vec::with_capacity(alloc, row.len())?;
     for edge in row {
-        if !is_in_run(edge, weights, split) {
+        if takes(part, edge, weights, split) {
             edges.push(*edge)?;
         }
     }
     Ok(edges)
 }
 
-/// Whether an edge of the state that is split is of its run: the run's edges stand one behind the other in the
-/// order by weight.
+/// Whether a part takes an edge of the state that is split.
+fn takes(part: Part, edge: &Edge<SplitName>, weights: &Weights, split: &Split) -> bool
+    requires inside { edge.now.to < length weights.now }
+    requires run_inside { All (λ e. e.to < length weights.now) split.now.run }
+    ensures { (row : List EdgeData) → HasRun weights.now row split.now
+        → Contains row (edge_data (λ name. name) edge.now)
+        → IsTrue result ↔ IsTakenBy part split.now.run (edge_data (λ name. name) edge.now) }
+{
+    match part {
+        Part::First => is_in_run(edge, weights, split),
+        Part::Second => !is_in_run(edge, weights, split),
+    }
+}
+
+/// Whether an edge of the state that is split is of its run: the run's edges stand one behind the
+/// other in the order by weight.
 fn is_in_run(edge: &Edge<SplitName>, weights: &Weights, split: &Split) -> bool
     requires inside { edge.now.to < length weights.now }
     requires run_inside { All (λ e. e.to < length weights.now) split.now.run }
@@ -137,12 +140,14 @@ fn is_in_run(edge: &Edge<SplitName>, weights: &Weights, split: &Split) -> bool
     }
 }
 
-/// Whether the first edge leads to a lighter target, or to one as light and stands before the second.
+/// Whether the first edge leads to a lighter target, or to one as light and stands before the
+/// second.
 fn is_lighter(edge: &Edge<SplitName>, other: &Edge<SplitName>, weights: &Weights) -> bool
     requires inside { edge.now.to < length weights.now }
     requires other_inside { other.now.to < length weights.now }
     ensures { IsTrue result
-        ↔ IsLighter weights.now (edge_data (λ name. name) edge.now) (edge_data (λ name. name) other.now) }
+        ↔ IsLighter weights.now (edge_data (λ name. name) edge.now)
+        (edge_data (λ name. name) other.now) }
 {
     let weight = weights.at(edge.to.index());
     let other_weight = weights.at(other.to.index());

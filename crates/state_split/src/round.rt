@@ -59,7 +59,8 @@ pub fn round_of(
     requires size { length weights.now ≡ length graph.now }
     requires light { All (λ weight. weight ≤ 512) weights.now }
     requires positive { All (λ weight. 0 < weight) weights.now }
-    ensures { IfOk result (λ round. AreSplitsBelow n (weighted graph.now weights.now) (length graph.now) round) }
+    ensures { IfOk result (λ round.
+        AreSplitsBelow n (weighted graph.now weights.now) (length graph.now) round) }
 {
     let mut room = Classes::new(alloc, weights)?;
     let mut splits = Vec::new(alloc);
@@ -87,7 +88,8 @@ fn split_of(
     requires light { All (λ weight. weight ≤ 512) weights.now }
     requires positive { All (λ weight. 0 < weight) weights.now }
     requires inside { state < length graph.now }
-    ensures some { IfOk result (λ found. IfSome found (IsSplitAt n (weighted graph.now weights.now) state)) }
+    ensures some { IfOk result (λ found.
+        IfSome found (IsSplitAt n (weighted graph.now weights.now) state)) }
     ensures none { IfOk result (λ found. IfNone found ((split : SplitData)
         → IsSplitAt n (weighted graph.now weights.now) state split → ⊥)) }
     ensures size { length room.new ≡ length room.old }

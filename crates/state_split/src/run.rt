@@ -7,7 +7,6 @@ ghost use Rattle.state_split.specs.inside.Agreeing.{IsFirstAgreeing, NoneAgree};
 ghost use Rattle.state_split.specs.inside.Classes.{HoldWeights};
 
 use crate::order::Classes;
-use crate::rows::copy_edges;
 use label_graphs::{Edge, Weights};
 use std::alloc::Global;
 use symbol_base::{Name, NoMemory, SplitName};
@@ -77,13 +76,23 @@ fn run_at(
     })
 }
 
+/// The same edges, in a list of their own.
+fn copy_edges(alloc: Global, edges: &[Edge<SplitName>]) -> Result<Vec<Edge<SplitName>>, NoMemory>
+    ensures { IfOk result (λ copy. copy.items ≡ edges.now) }
+{
+    let mut copy = Vec::with_capacity(alloc, edges.len())?;
+    copy.extend_from_slice(edges)?;
+    Ok(copy)
+}
+
 /// The first two sums of weights that agree modulo n, within the first n edges.
 fn first_agreeing(ordered: &[Edge<SplitName>], weights: &Weights, n: u32) -> Option<Place>
     requires n_one { 1 ≤ n }
     requires n_most { n ≤ 256 }
     requires light { All (λ weight. weight ≤ 512) weights.now }
     requires inside { All (λ edge. edge.to < length weights.now) ordered.now }
-    ensures some { IfSome result (λ place. IsFirstAgreeing n weights.now (edges_data ordered.now) place.from place.to) }
+    ensures some { IfSome result (λ place.
+        IsFirstAgreeing n weights.now (edges_data ordered.now) place.from place.to) }
     ensures none { IfNone result (NoneAgree n weights.now (edges_data ordered.now)) }
 {
     let mut seen = [None; 256];

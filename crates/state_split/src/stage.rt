@@ -10,7 +10,7 @@ ghost use Rattle.state_split.specs.inside.Splits.{AreSplitsBelow, HasSplits};
 use crate::order::greatest;
 use crate::parts::{parents_of_parts, second_parts, weights_of_parts};
 use crate::round::Round;
-use crate::rows::{copy_edges, graph_of_parts};
+use crate::rows::graph_of_parts;
 use label_graphs::{Edge, Graph, Refinement, Weights, compose};
 use sink_part::SinkGraph;
 use std::alloc::Global;
@@ -25,27 +25,19 @@ pub struct Stage {
 }
 
 /// The sink, before the first round.
+#[tactic(auto, using(crate::proofs::PartNumbers::parents_of_whole))]
 pub fn first_stage(alloc: Global, sink: &SinkGraph) -> Result<Stage, NoMemory>
     requires { length sink.now.weights ≡ length sink.now.graph }
     ensures graph { IfOk result (λ stage. stage.graph ≡ sink.now.graph) }
     ensures weights { IfOk result (λ stage. stage.weights ≡ sink.now.weights) }
-    ensures parents { IfOk result (λ stage. stage.parents ≡ range_with_len 0 (length sink.now.graph)) }
+    ensures parents { IfOk result (λ stage.
+        stage.parents ≡ range_with_len 0 (length sink.now.graph)) }
 {
     Ok(Stage {
-        graph: copy_graph(alloc, &sink.graph)?,
+        graph: sink.graph.renamed(alloc)?,
         weights: copy_weights(alloc, &sink.weights)?,
-        parents: own_parents(alloc, sink.graph.states())?,
+        parents: parents_of_parts(alloc, sink.graph.states(), &[])?,
     })
-}
-
-fn copy_graph(alloc: Global, graph: &Graph<SplitName>) -> Result<Graph<SplitName>, NoMemory>
-    ensures { IfOk result (λ copy. copy ≡ graph.now) }
-{
-    let mut rows = Vec::with_capacity(alloc, graph.states() as usize)?;
-    for state in 0..graph.states() {
-        rows.push(copy_edges(alloc, graph.row(SplitName::at(state)))?)?;
-    }
-    Ok(Graph::from_rows(rows))
 }
 
 fn copy_weights(alloc: Global, weights: &Weights) -> Result<Weights, NoMemory>
@@ -56,17 +48,6 @@ fn copy_weights(alloc: Global, weights: &Weights) -> Result<Weights, NoMemory>
         list.push(weights.at(state))?;
     }
     Ok(Weights::from_list(list))
-}
-
-/// Each state as its own parent.
-fn own_parents(alloc: Global, states: u32) -> Result<Refinement<SplitName, SplitName>, NoMemory>
-    ensures { IfOk result (λ parents. parents ≡ range_with_len 0 states) }
-{
-    let mut parents = Vec::with_capacity(alloc, states as usize)?;
-    for state in 0..states {
-        parents.push(SplitName::at(state))?;
-    }
-    Ok(Refinement::from_parents(parents))
 }
 
 /// Whether a state of the greatest weight has an edge to a lighter one.
@@ -89,7 +70,8 @@ pub fn needs_round(stage: &Stage) -> bool
 fn leads_lower(edges: &[Edge<SplitName>], weights: &Weights, most: u32) -> bool
     requires inside { All (λ edge. edge.to < length weights.now) edges.now }
     ensures { IsTrue result
-        ↔ (edge : EdgeData) × Contains (edges_data edges.now) edge × (slice_index weights.now edge.to < most) }
+        ↔ (edge : EdgeData) × Contains (edges_data edges.now) edge
+        × (slice_index weights.now edge.to < most) }
 {
     for edge in edges {
         if weights.at(edge.to.index()) < most {
@@ -105,9 +87,12 @@ pub fn next_stage(alloc: Global, stage: &Stage, round: &Round) -> Result<Stage, 
     requires parents { length stage.now.parents ≡ length stage.now.graph }
     requires splits { HasSplits (weighted stage.now.graph stage.now.weights) round.now }
     requires count { length stage.now.graph + length round.now < 2 ^ 32 }
-    ensures { (n : ℕ) → AreSplitsBelow n (weighted stage.now.graph stage.now.weights) (length stage.now.graph) round.now
+    ensures { (n : ℕ)
+        → AreSplitsBelow n (weighted stage.now.graph stage.now.weights) (length stage.now.graph)
+        round.now
         → IfOk result (λ next. (parents : List ℕ)
-        × IsRound n (weighted stage.now.graph stage.now.weights) round.now (weighted next.graph next.weights) parents
+        × IsRound n (weighted stage.now.graph stage.now.weights) round.now
+        (weighted next.graph next.weights) parents
         × (next.parents ≡ parents_of stage.now.parents parents)) }
 {
     let next = divided(alloc, &stage.graph, &stage.weights, round)?;
@@ -129,7 +114,8 @@ fn divided(
     requires size { length weights.now ≡ length graph.now }
     requires splits { HasSplits (weighted graph.now weights.now) round.now }
     requires count { length graph.now + length round.now < 2 ^ 32 }
-    ensures { (n : ℕ) → AreSplitsBelow n (weighted graph.now weights.now) (length graph.now) round.now
+    ensures { (n : ℕ)
+        → AreSplitsBelow n (weighted graph.now weights.now) (length graph.now) round.now
         → IfOk result (λ next.
         IsRound n (weighted graph.now weights.now) round.now (weighted next.graph next.weights) next.parents) }
 {

@@ -56,7 +56,8 @@ pub fn symbols_of_a_block()
 pub fn block_of_its_symbols()
     ensures value { (alphabet q value : ℕ) → 2 ≤ alphabet → value < alphabet ^ q
         → number_of alphabet (symbols_of alphabet q value) ≡ value }
-    ensures word { (alphabet q value : ℕ) → 2 ≤ alphabet → IsOver alphabet (symbols_of alphabet q value) }
+    ensures word { (alphabet q value : ℕ) → 2 ≤ alphabet
+        → IsOver alphabet (symbols_of alphabet q value) }
     ensures count { (alphabet q value : ℕ) → length (symbols_of alphabet q value) ≡ q }
 {}
 

@@ -42,9 +42,10 @@ fn number_of_digits(text: &[u8]) -> u64
     number
 }
 
-/// A text of 1 to 18 digits with no leading 0 is the spelling of a number below 10^18, and each such
-/// spelling is one.
+/// A text of 1 to 18 digits with no leading 0 is the spelling of a number below 10^18, and each
+/// such spelling is one.
 pub fn decimal_texts()
-    ensures spells { (text : List ℕ) → IsDecimal text → ((n : ℕ) × (n < 10 ^ 18) × (text ≡ decimal n)) }
+    ensures spells { (text : List ℕ) → IsDecimal text
+        → ((n : ℕ) × (n < 10 ^ 18) × (text ≡ decimal n)) }
     ensures spelled { (n : ℕ) → n < 10 ^ 18 → IsDecimal (decimal n) }
 {}

@@ -43,7 +43,8 @@ parts_from read after size (suc count) s first bytes = do
 pub record ReadsLines {E A : Type 0} (Keeps : E → List ℕ → E → Type 0) (IsEnd : E → Type 0) (read : LineReader A)
     (lines : A → List (List ℕ)) (Is : A → Type 0) (from : E) (to : A → E) : Type 0 where
   pub again : (first : ℕ) (value : A) (rest : List ℕ) → Is value → read first (text_of (lines value) ++ rest) ≡ Ok (value, rest)
-  pub takes : (first : ℕ) (bytes : List ℕ) (value : A) (rest : List ℕ) → read first bytes ≡ Ok (value, rest) → (bytes ≡ text_of (lines value) ++ rest) × Is value
+  pub takes : (first : ℕ) (bytes : List ℕ) (value : A) (rest : List ℕ) → read first bytes ≡ Ok (value, rest)
+      → (bytes ≡ text_of (lines value) ++ rest) × Is value
   pub leads : (value : A) → Is value → Leads Keeps from (lines value) (to value)
   pub wrong : (first : ℕ) (bytes : List ℕ) (n : ℕ) → read first bytes ≡ Err n → IsFirstWrong Keeps IsEnd from first bytes n
 

@@ -9,7 +9,8 @@ text_of lines = flat_map (λ line. line ++ 10 ∷ []) lines
 -- The lines keep their rules one after the other: from where the text stands they lead to where it goes on.
 pub data Leads {E : Type 0} (Keeps : E → List ℕ → E → Type 0) : E → List (List ℕ) → E → Type 0 where
   none : (here : E) → Leads Keeps here [] here
-  more : (here via there : E) (line : List ℕ) (lines : List (List ℕ)) → Keeps here line via → Leads Keeps via lines there → Leads Keeps here (line ∷ lines) there
+  more : (here via there : E) (line : List ℕ) (lines : List (List ℕ)) → Keeps here line via
+      → Leads Keeps via lines there → Leads Keeps here (line ∷ lines) there
 
 -- No line that keeps its rule stands in front, and it isn't the end of a whole text either.
 pub record Breaks {E : Type 0} (Keeps : E → List ℕ → E → Type 0) (IsEnd : E → Type 0) (here : E) (bytes : List ℕ) : Type 0 where

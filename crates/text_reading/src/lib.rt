@@ -67,7 +67,8 @@ pub fn field(bytes: &[u8], end: u8, least: u64, most: u64) -> Option<(u64, &[u8]
     }
 }
 
-/// The block of the `q` digits at the front of the bytes, each the digit of a symbol of the alphabet.
+/// The block of the `q` digits at the front of the bytes, each the digit of a symbol of the
+/// alphabet.
 #[tactic(auto, unfolding(crate::specs::Reading::block_at))]
 pub fn block(bytes: &[u8], alphabet: u8, q: u32) -> Option<(u64, &[u8])>
     requires two { 2 ≤ alphabet }
@@ -89,16 +90,20 @@ pub fn block(bytes: &[u8], alphabet: u8, q: u32) -> Option<(u64, &[u8])>
     Some((value, rest))
 }
 
-/// A number from `least` to `most` and the byte that ends it: the decimal spelling of such a number, and the byte.
+/// A number from `least` to `most` and the byte that ends it: the decimal spelling of such a
+/// number, and the byte.
 pub fn fields_are_read()
     ensures { (end least most : ℕ) → is_ascii_digit end ≡ false → most < 10 ^ 18
-        → Reads (field_at end least most) (λ n. decimal_text n ++ end ∷ []) (λ n. (least ≤ n) × (n ≤ most)) }
+        → Reads (field_at end least most) (λ n. decimal_text n ++ end ∷ []) (λ n.
+        (least ≤ n) × (n ≤ most)) }
 {}
 
 /// The block of a word of q symbols: the word's digits.
 pub fn blocks_are_read()
     ensures { (alphabet q : ℕ) → 2 ≤ alphabet
-        → Reads (block_at alphabet q) (λ value. map (λ symbol. 48 + symbol) (symbols_of alphabet q value)) (λ value. value < alphabet ^ q) }
+        → Reads (block_at alphabet q)
+        (λ value. map (λ symbol. 48 + symbol) (symbols_of alphabet q value)) (λ value.
+        value < alphabet ^ q) }
 {}
 
 #[cfg(test)]

@@ -15,9 +15,8 @@ use Rattle.command_steps.proofs.StepLaws.{reads_is_single, reads_value, reads_fa
 use Rattle.block_codec.specs.TextDecoding.{EndsText, ended, refused_at_end}
 use Rattle.workbench.specs.CheckedCodes.{CheckedAt}
 use Rattle.workbench.specs.Limits.{text_limit}
-use Rattle.workbench.specs.Decode.{channel_fault, FileOf, bytes_line, read_row, decode_row}
-use Rattle.workbench.specs.TextFile.{FileAt, ReadsPiece}
-use Rattle.workbench.proofs.ApartLaws.{follow_apart}
+use Rattle.workbench.specs.Decode.{channel_fault, FileAt, FileOf, bytes_line, read_row, decode_row}
+use Rattle.workbench.specs.TextFile.{ReadsPiece}
 
 abbrev value_of : List ℕ → Result (List ℕ) EndFault → List ℕ
 value_of other (Ok file) = file
@@ -107,11 +106,9 @@ module _ {Y : Type 0} (other : Y → Answer) where
         → Follows other (read_row c name) old new result
     no_file old new result s is stop =
         subst (λ (r : Result Y Status). Follows other (read_row c name) old new r) (sym is)
-        (follow_apart (InputAt name 2 text_limit) (FileOf c) answer_to other old new (Err s) (follow_stop view other (FileAt c name) answer_to old new s stop))
+        (follow_stop view other (FileAt c name) answer_to old new s stop)
 
     -- what is done with the file that a text gives
     pub with_file : (old new : Seen) (x : X) (result : Result Y Status) → Follows view (FileAt c name) old new (Ok x)
         → Follows other (Gives (writes (view x) (bytes_line (view x)))) new new result → Follows other (read_row c name) old new result
-    with_file old new x result first rest =
-        follow_apart (InputAt name 2 text_limit) (FileOf c) answer_to other old new result
-        (follow_on view other (FileAt c name) answer_to old new new x result first rest)
+    with_file old new x result first rest = follow_on view other (FileAt c name) answer_to old new new x result first rest

@@ -4,7 +4,6 @@ pub mod CodeLaws
 pub mod ConstraintLaws
 pub mod RowLaws
 pub mod TextLaws
-pub mod ApartLaws
 pub mod DecodeLaws
 pub mod TextPieceLaws
 pub mod IncomingLaws

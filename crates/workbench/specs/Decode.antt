@@ -23,15 +23,20 @@ channel_fault (ends.PartByte count) = faults.PartByte count
 abbrev pub FileOf : CodeData → List ℕ → Step (List ℕ)
 FileOf code text = Reads (λ file. ReadsText code text (Ok file)) (λ fault. ReadsText code text (Err fault)) (λ fault. ChannelRefused (channel_fault fault))
 
+-- the file that a text file gives
+abbrev pub FileAt : CodeData → List ℕ → Step (List ℕ)
+FileAt code text_name = do
+  text ← InputAt text_name 2 text_limit
+  FileOf code text
+
 -- how many bytes the file has
 abbrev pub bytes_line : List ℕ → List ℕ
 bytes_line file = codes "bytes " ++ decimal (length file) ++ 10 ∷ []
 
--- the answer to the text under the code
+-- the answer to the text file under the code
 abbrev pub read_row : CodeData → List ℕ → Step Answer
 read_row code text_name = do
-  text ← InputAt text_name 2 text_limit
-  file ← FileOf code text
+  file ← FileAt code text_name
   Gives (writes file (bytes_line file))
 
 unfoldable pub decode_row : List ℕ → List ℕ → Step Answer

@@ -5,17 +5,10 @@ use Rattle.code_spec.specs.Code.{CodeData}
 use Rattle.code_spec.specs.PlainReading.{IsBadAt, IsPlainFront}
 use Rattle.block_codec.specs.TextDecoding.{IsTextDecoderFor, IsMade, bytes_come, TextHasCome}
 use Rattle.command_steps.specs.declared.status.Status.{Status}
-use Rattle.command_steps.specs.Step.{Step, ◌>>=◌, InputAt}
+use Rattle.command_steps.specs.Step.{InputAt}
 use Rattle.command_steps.specs.Promise.{Seen, Follows}
 use Rattle.workbench.specs.Limits.{text_limit}
-use Rattle.workbench.specs.Decode.{FileOf}
 use Rattle.workbench.specs.declared.text_file.IncomingText.{IncomingText}
-
--- the file that a text file gives
-abbrev pub FileAt : CodeData → List ℕ → Step (List ℕ)
-FileAt code name = do
-  text ← InputAt name 2 text_limit
-  FileOf code text
 
 -- ---- pieces of the file
 

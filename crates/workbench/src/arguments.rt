@@ -10,14 +10,16 @@ use command_steps::{Status, print_line};
 use shelf_io::{Shelf, TextSink};
 use std::alloc::Global;
 
-/// Runs the words behind the program's name, which is the first argument, and gives the exit status.
+/// Runs the words behind the program's name, which is the first argument, and gives the exit
+/// status.
 pub fn run_arguments<F: Shelf, K: TextSink>(
     alloc: Global,
     arguments: &[String],
     shelf: &mut F,
     out: &mut K,
 ) -> u8
-    ensures { (status : Status) × (result ≡ exit_status status) × Runs (map string_bytes (drop 1 arguments.now))
+    ensures { (status : Status) × (result ≡ exit_status status)
+        × Runs (map string_bytes (drop 1 arguments.now))
         (seen F.files F.faults shelf.old) (seen F.files F.faults shelf.new)
         (said K.written K.faults out.old) (said K.written K.faults out.new) status }
 {
@@ -32,7 +34,8 @@ pub fn run_arguments<F: Shelf, K: TextSink>(
 /// Ends with a status before any words are known: prints its line, and gives the exit status.
 pub fn end_with<K: TextSink>(alloc: Global, status: &Status, out: &mut K) -> u8
     ensures number { result ≡ exit_status status.now }
-    ensures line { SaysLine status.now (said K.written K.faults out.old) (said K.written K.faults out.new) }
+    ensures line { SaysLine status.now (said K.written K.faults out.old)
+        (said K.written K.faults out.new) }
 {
     print_line(alloc, out, status);
     status.number()

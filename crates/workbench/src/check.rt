@@ -13,7 +13,8 @@ use symbol_base::NoMemory;
 /// The answer of `check`: the sizes of the code of a code file, where it is a checked code.
 #[tactic(auto, using(command_steps::proofs::StepLaws::rows), unfolding(crate::specs::Check::check_row))]
 pub fn check<F: Shelf>(alloc: Global, shelf: &mut F, code: &str) -> Result<Reply, Status>
-    ensures { Follows (λ r. r) (check_row code.now) (seen F.files F.faults shelf.old) (seen F.files F.faults shelf.new) result }
+    ensures { Follows (λ r. r) (check_row code.now) (seen F.files F.faults shelf.old)
+        (seen F.files F.faults shelf.new) result }
 {
     let code = read_checked_code(alloc, shelf, code)?;
     Ok(Reply::prints(check_text(alloc, code.code())?))

@@ -19,7 +19,8 @@ pub fn read_checked_code<F: Shelf>(
     shelf: &mut F,
     name: &str,
 ) -> Result<CheckedCode, Status>
-    ensures { Follows (λ c. c) (CheckedAt name.now) (seen F.files F.faults shelf.old) (seen F.files F.faults shelf.new) result }
+    ensures { Follows (λ c. c) (CheckedAt name.now) (seen F.files F.faults shelf.old)
+        (seen F.files F.faults shelf.new) result }
 {
     let code = read_code_file(alloc, shelf, name)?;
     check(alloc, code)
@@ -56,7 +57,8 @@ fn told(fault: CheckFault) -> Status
 /// Reads a code file, and understands it.
 #[tactic(auto, using(command_steps::proofs::StepLaws::rows), unfolding(crate::specs::Inputs::CodeAt))]
 fn read_code_file<F: Shelf>(alloc: Global, shelf: &mut F, name: &str) -> Result<Code, Status>
-    ensures { Follows (λ c. c) (CodeAt name.now) (seen F.files F.faults shelf.old) (seen F.files F.faults shelf.new) result }
+    ensures { Follows (λ c. c) (CodeAt name.now) (seen F.files F.faults shelf.old)
+        (seen F.files F.faults shelf.new) result }
 {
     let bytes = read_input(alloc, shelf, name, 1, CODE_LIMIT)?;
     understand(alloc, bytes.as_slice())

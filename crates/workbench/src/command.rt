@@ -47,7 +47,8 @@ fn three_files_command<'a>(
     source: &'a str,
     target: &'a str,
 ) -> Option<Command<'a>>
-    ensures form { option_map form_seen result ≡ three_files_form command.now code.now source.now target.now }
+    ensures form { option_map form_seen result
+        ≡ three_files_form command.now code.now source.now target.now }
     ensures within { IfSome result (λ command. IsWithin (form_seen command)) }
 {
     if target == code || target == source {

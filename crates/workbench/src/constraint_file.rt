@@ -17,7 +17,8 @@ pub fn read_constraint_file<F: Shelf>(
     shelf: &mut F,
     name: &str,
 ) -> Result<Constraint, Status>
-    ensures { Follows (λ c. c) (ConstraintAt name.now) (seen F.files F.faults shelf.old) (seen F.files F.faults shelf.new) result }
+    ensures { Follows (λ c. c) (ConstraintAt name.now) (seen F.files F.faults shelf.old)
+        (seen F.files F.faults shelf.new) result }
 {
     let bytes = read_input(alloc, shelf, name, 1, CONSTRAINT_LIMIT)?;
     understand(alloc, bytes.as_slice())

@@ -15,7 +15,8 @@ pub fn decode<F: Shelf>(
     code: &str,
     text: &str,
 ) -> Result<Reply, Status>
-    ensures { Follows (λ r. r) (decode_row code.now text.now) (seen F.files F.faults shelf.old) (seen F.files F.faults shelf.new) result }
+    ensures { Follows (λ r. r) (decode_row code.now text.now) (seen F.files F.faults shelf.old)
+        (seen F.files F.faults shelf.new) result }
 {
     let code = read_checked_code(alloc, shelf, code)?;
     let file = read_text(alloc, shelf, &code, text)?;

@@ -50,7 +50,8 @@ impl TextPlan {
     /// Writes the text piece by piece. After a fault the file is untouched or a front of the text.
     #[tactic(auto, using(command_steps::specs::Answer::delivered, command_steps::specs::Answer::broken))]
     pub fn write<F: Shelf>(self, shelf: &mut F, name: &str) -> Result<String, Status>
-        ensures { Delivers self name.now (seen F.files F.faults shelf.old) (seen F.files F.faults shelf.new) (text_left result) }
+        ensures { Delivers self name.now (seen F.files F.faults shelf.old)
+            (seen F.files F.faults shelf.new) (text_left result) }
     {
         let TextPlan {
             code,
@@ -76,12 +77,14 @@ fn put_text<F: Shelf>(
 ) -> Result<(), Failed>
     requires writer { IsWriterFor code.now writer.old }
     requires file { length file.now ≤ data_limit }
-    ensures { IsOutput name.now (Some (plain_text code.now file.now)) (seen F.files F.faults shelf.old) (seen F.files F.faults shelf.new) result }
+    ensures { IsOutput name.now (Some (plain_text code.now file.now))
+        (seen F.files F.faults shelf.old) (seen F.files F.faults shelf.new) result }
 {
     writer.write(code, shelf, name, file)
 }
 
-/// Reads and checks the code of `encode`, reads its data, and takes the memory that writing the text needs.
+/// Reads and checks the code of `encode`, reads its data, and takes the memory that writing the
+/// text needs.
 #[tactic(auto, using(command_steps::proofs::StepLaws::rows), unfolding(crate::specs::Encode::encode_row))]
 pub fn plan_text<F: Shelf>(
     alloc: Global,
@@ -89,7 +92,8 @@ pub fn plan_text<F: Shelf>(
     code: &str,
     source: &str,
 ) -> Result<TextPlan, Status>
-    ensures { Follows (λ r. r) (encode_row code.now source.now) (seen F.files F.faults shelf.old) (seen F.files F.faults shelf.new) result }
+    ensures { Follows (λ r. r) (encode_row code.now source.now) (seen F.files F.faults shelf.old)
+        (seen F.files F.faults shelf.new) result }
 {
     let code = read_checked_code(alloc, shelf, code)?;
     let file = read_input(alloc, shelf, source, 2, DATA_LIMIT)?;
@@ -109,7 +113,9 @@ pub fn plan_text<F: Shelf>(
 #[tactic(auto, using(crate::proofs::TextLaws::text_fits, crate::proofs::TextLaws::text_too_long))]
 fn test_length(code: &Code, file: &[u8]) -> Result<(), Status>
     requires { length file.now ≤ data_limit }
-    ensures { Decides (λ done. done) (Needs (length (plain_text code.now file.now) ≤ text_limit) (statuses.FileTooLong text_limit)) result }
+    ensures { Decides (λ done. done)
+        (Needs (length (plain_text code.now file.now) ≤ text_limit)
+        (statuses.FileTooLong text_limit)) result }
 {
     if symbol_count(code, file.len() as u64) >= TEXT_LIMIT {
         return Err(Status::FileTooLong(TEXT_LIMIT));

@@ -17,8 +17,8 @@ use shelf_io::Shelf;
 use std::alloc::Global;
 use symbol_base::{CoverName, Name, NoMemory, SplitName};
 
-/// The answer of `explain`: a design with `p` data bits for `q` symbols and weights up to `bound`, up to its
-/// last round of splitting, for the constraint of a constraint file, as it is printed.
+/// The answer of `explain`: a design with `p` data bits for `q` symbols and weights up to `bound`,
+/// up to its last round of splitting, for the constraint of a constraint file, as it is printed.
 #[tactic(auto, using(command_steps::proofs::StepLaws::rows), unfolding(crate::specs::Explain::explain_row))]
 pub fn explain<F: Shelf>(
     alloc: Global,
@@ -34,7 +34,8 @@ pub fn explain<F: Shelf>(
     requires q_twenty { q ≤ 20 }
     requires bound_one { 1 ≤ bound }
     requires bound_most { bound ≤ 64 }
-    ensures { Follows (λ r. r) (explain_row constraint.now p q bound) (seen F.files F.faults shelf.old) (seen F.files F.faults shelf.new) result }
+    ensures { Follows (λ r. r) (explain_row constraint.now p q bound)
+        (seen F.files F.faults shelf.old) (seen F.files F.faults shelf.new) result }
 {
     let constraint = read_constraint_file(alloc, shelf, constraint)?;
     let design = split(alloc, &constraint, p, q, bound)?;
@@ -45,8 +46,10 @@ pub fn explain<F: Shelf>(
 fn explain_text(alloc: Global, design: &SplitDesign, q: u32) -> Result<String, NoMemory>
     requires short { q ≤ 20 }
     requires edges { edge_count design.now.power ≤ 262144 }
-    requires splits { split_count design.now.chain.rounds.items + length design.now.chain.sink.graph ≤ 512 }
-    ensures { IfOk result (λ text. string_bytes text ≡ text_of (explain_lines q (split_design_data design.now))) }
+    requires splits { split_count design.now.chain.rounds.items + length design.now.chain.sink.graph
+        ≤ 512 }
+    ensures { IfOk result (λ text.
+        string_bytes text ≡ text_of (explain_lines q (split_design_data design.now))) }
 {
     let mut text = begun_text(alloc, design)?;
     write_chain(&design.chain, design.cover.alphabet, q, &mut text)?;
@@ -56,7 +59,8 @@ fn explain_text(alloc: Global, design: &SplitDesign, q: u32) -> Result<String, N
 /// The lines of what a design begins with.
 fn begun_text(alloc: Global, design: &SplitDesign) -> Result<String, NoMemory>
     requires { edge_count design.now.power ≤ 262144 }
-    ensures { IfOk result (λ text. string_bytes text ≡ text_of (begun_lines (split_design_data design.now).begun)) }
+    ensures { IfOk result (λ text.
+        string_bytes text ≡ text_of (begun_lines (split_design_data design.now).begun)) }
 {
     let mut text = cover_text(alloc, &design.cover)?;
     let memory = design.memory;
@@ -75,7 +79,8 @@ fn begun_text(alloc: Global, design: &SplitDesign) -> Result<String, NoMemory>
 
 /// Writes each weight behind a space.
 fn write_weights(weights: &Weights, text: &mut String) -> Result<(), NoMemory>
-    ensures { OnOk result (string_bytes text.new ≡ string_bytes text.old ++ behind_spaces weights.now) }
+    ensures { OnOk result
+        (string_bytes text.new ≡ string_bytes text.old ++ behind_spaces weights.now) }
 {
     for state in 0..weights.len() {
         let weight = weights.at(state);
@@ -89,7 +94,8 @@ fn write_parents(
     parents: &Refinement<SplitName, CoverName>,
     text: &mut String,
 ) -> Result<(), NoMemory>
-    ensures { OnOk result (string_bytes text.new ≡ string_bytes text.old ++ behind_spaces parents.now) }
+    ensures { OnOk result
+        (string_bytes text.new ≡ string_bytes text.old ++ behind_spaces parents.now) }
 {
     for state in 0..parents.len() {
         let parent = parents.parent(SplitName::at(state)).index();

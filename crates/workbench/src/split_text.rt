@@ -123,7 +123,8 @@ fn write_run(
 
 /// Writes the number of each state behind a space.
 fn write_names(names: &[SplitName], text: &mut String) -> Result<(), NoMemory>
-    ensures { OnOk result (string_bytes text.new ≡ string_bytes text.old ++ behind_spaces names.now) }
+    ensures { OnOk result
+        (string_bytes text.new ≡ string_bytes text.old ++ behind_spaces names.now) }
 {
     for name in names {
         let state = name.index();

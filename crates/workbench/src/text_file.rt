@@ -2,8 +2,8 @@ ghost use Rattle.std.specs.Prelude.{◌≡◌, ℕ, ◌+◌, ◌<◌, ◌≤◌,
 ghost use Rattle.code_spec.specs.Code.{CodeData};
 ghost use Rattle.command_steps.specs.Promise.{Follows, Decides, seen};
 ghost use Rattle.workbench.specs.Limits.{text_limit};
-ghost use Rattle.workbench.specs.Decode.{channel_fault, FileOf};
-ghost use Rattle.workbench.specs.TextFile.{FileAt, StartsFile, ReadsPiece, IsIncomingFor, HasCome};
+ghost use Rattle.workbench.specs.Decode.{channel_fault, FileAt, FileOf};
+ghost use Rattle.workbench.specs.TextFile.{StartsFile, ReadsPiece, IsIncomingFor, HasCome};
 
 use block_codec::{EndFault, TextDecoder, TextFault};
 use code_model::CheckedCode;
@@ -26,7 +26,8 @@ pub fn read_text<F: Shelf>(
     code: &CheckedCode,
     name: &str,
 ) -> Result<Vec<u8>, Status>
-    ensures { Follows (λ file. file.items) (FileAt code.now name.now) (seen F.files F.faults shelf.old) (seen F.files F.faults shelf.new) result }
+    ensures { Follows (λ file. file.items) (FileAt code.now name.now)
+        (seen F.files F.faults shelf.old) (seen F.files F.faults shelf.new) result }
 {
     let mut incoming = IncomingText::new(alloc, code)?;
     let mut room = [0; ROOM];
@@ -39,7 +40,8 @@ pub fn read_text<F: Shelf>(
     }
 }
 
-/// Puts the next piece of a text file at the front of the room, and answers how many bytes it has: none at the end.
+/// Puts the next piece of a text file at the front of the room, and answers how many bytes it has:
+/// none at the end.
 fn read_piece<F: Shelf>(
     shelf: &mut F,
     name: &str,
@@ -49,7 +51,8 @@ fn read_piece<F: Shelf>(
     requires room { 0 < length room.old }
     requires within { at ≤ text_limit }
     ensures { (text : List ℕ) → length text ≡ at → StartsFile (F.files shelf.old) name.now text
-        → ReadsPiece name.now text room.new (seen F.files F.faults shelf.old) (seen F.files F.faults shelf.new) result }
+        → ReadsPiece name.now text room.new (seen F.files F.faults shelf.old)
+        (seen F.files F.faults shelf.new) result }
 {
     let count = match shelf.read(name, at, room) {
         Ok(count) => count,
@@ -92,7 +95,9 @@ impl IncomingText {
         requires within { self.old.length + length piece.now ≤ text_limit }
         ensures code { IfOk result (λ _. IsIncomingFor code.now self.new) }
         ensures length { self.new.length ≡ self.old.length + length piece.now }
-        ensures come { IfOk result (λ _. (text : List ℕ) → HasCome code.now text self.old → HasCome code.now (text ++ piece.now) self.new) }
+        ensures come { IfOk result (λ _.
+            (text : List ℕ) → HasCome code.now text self.old
+            → HasCome code.now (text ++ piece.now) self.new) }
     {
         self.length += piece.len() as u64;
         if self.fault.is_some() {
@@ -111,7 +116,8 @@ impl IncomingText {
     /// The file of the text, all of which has come.
     fn end(self, code: &CheckedCode) -> Result<Vec<u8>, Status>
         requires code { IsIncomingFor code.now self }
-        ensures { (text : List ℕ) → HasCome code.now text self → Decides (λ file. file.items) (FileOf code.now text) result }
+        ensures { (text : List ℕ) → HasCome code.now text self
+            → Decides (λ file. file.items) (FileOf code.now text) result }
     {
         let _code = code.code();
         if let Some(at) = self.fault {

@@ -21,13 +21,14 @@ use std::alloc::Global;
 
 /// Does what the program's words ask for over a shelf of files, and answers how it ended.
 ///
-/// `encode CODE DATA TEXT` reads a code file and a data file, writes the plain channel text of the data
-/// under the code, and prints how many blocks it has; `decode CODE TEXT DATA` writes the data file of a plain
-/// channel text, and prints how many bytes it has; `check CODE` and `explain CONSTRAINT P Q BOUND` print alone. After a status other than `Done` and `SinkFault` the
-/// line of the status is printed.
+/// `encode CODE DATA TEXT` reads a code file and a data file, writes the plain channel text of the
+/// data under the code, and prints how many blocks it has; `decode CODE TEXT DATA` writes the data
+/// file of a plain channel text, and prints how many bytes it has; `check CODE` and `explain
+/// CONSTRAINT P Q BOUND` print alone. After a status other than `Done` and `SinkFault` the line of
+/// the status is printed.
 ///
-/// The file that is written is the last name's alone. After a fault of the shelf it may be a front of
-/// the text, or empty; after every other status but `Done` and `SinkFault` no file is changed.
+/// The file that is written is the last name's alone. After a fault of the shelf it may be a front
+/// of the text, or empty; after every other status but `Done` and `SinkFault` no file is changed.
 #[tactic(auto, using(command_steps::proofs::EndLaws::ends, crate::proofs::RowLaws::row_is_single, crate::proofs::ChannelLaws::keeps_constraint))]
 pub fn run<F: Shelf, K: TextSink>(
     alloc: Global,
@@ -38,27 +39,35 @@ pub fn run<F: Shelf, K: TextSink>(
     // The words are none of the forms.
     ensures usage { (result ≡ statuses.Usage) ↔ (form_of (map string_bytes words.now) ≡ None) }
 
-    // The status, the files and what is printed follow the row of the form; words of no form change no file.
-    ensures runs { Runs (map string_bytes words.now) (seen F.files F.faults shelf.old) (seen F.files F.faults shelf.new)
+    // The status, the files and what is printed follow the row of the form; words of no form change
+    // no file.
+    ensures runs { Runs (map string_bytes words.now) (seen F.files F.faults shelf.old)
+        (seen F.files F.faults shelf.new)
         (said K.written K.faults out.old) (said K.written K.faults out.new) result }
 
-    // Each refusal comes exactly where the row refuses so, a fault of the shelf and want of memory aside.
+    // Each refusal comes exactly where the row refuses so, a fault of the shelf and want of memory
+    // aside.
     ensures exact { IfSome (form_of (map string_bytes words.now)) (λ form.
         IsExact (row_of form) (F.files shelf.old) result) }
 
-    // Where the row refuses nothing and there is no fault, the answer is given, or memory was wanted.
-    ensures complete { IfSome (form_of (map string_bytes words.now)) (λ form. Completes (row_of form) (output_of form)
+    // Where the row refuses nothing and there is no fault, the answer is given, or memory was
+    // wanted.
+    ensures complete { IfSome (form_of (map string_bytes words.now)) (λ form.
+        Completes (row_of form) (output_of form)
         (seen F.files F.faults shelf.old) (seen F.files F.faults shelf.new)
         (said K.written K.faults out.old) (said K.written K.faults out.new) result) }
 
-    // After `encode` was done, the text is made of a word of the constraint that the code file keeps.
+    // After `encode` was done, the text is made of a word of the constraint that the code file
+    // keeps.
     ensures channel { IfSome (form_of (map string_bytes words.now)) (λ form.
         KeepsConstraint form (F.files shelf.old) (F.files shelf.new) result) }
 
-    // After a fault of the shelf its count rose, and after every other status it is what it was; after a fault of
-    // the sink its count rose, and after `Done` it is what it was.
-    ensures count { CountsShelf (seen F.files F.faults shelf.old) (seen F.files F.faults shelf.new) result }
-    ensures sink_count { CountsSink (said K.written K.faults out.old) (said K.written K.faults out.new) result }
+    // After a fault of the shelf its count rose, and after every other status it is what it was;
+    // after a fault of the sink its count rose, and after `Done` it is what it was.
+    ensures count { CountsShelf (seen F.files F.faults shelf.old) (seen F.files F.faults shelf.new)
+        result }
+    ensures sink_count { CountsSink (said K.written K.faults out.old)
+        (said K.written K.faults out.new) result }
 {
     match command_of(words) {
         None => {

@@ -1,12 +1,14 @@
 -- What a reader of symbols knows of those that have come.
-use Rattle.std.specs.Prelude.{◌≡◌, ℕ, ◌<◌, false, Option, Some, None, List, [], ◌∷◌, ◌++◌, length, take, slice_index}
+use Rattle.std.specs.Prelude.{◌≡◌, ℕ, ◌+◌, ◌<◌, false, Option, Some, None, List, [], ◌∷◌, ◌++◌, length, take, slice_index}
 use Rattle.symbol_base.specs.declared.Block.{Block}
 use Rattle.code_spec.specs.Code.{CodeData}
 use Rattle.code_spec.specs.Decoder.{AreDecoded}
 use Rattle.code_spec.specs.PlainReading.{is_blank, IsDigit, IsChannelText, symbols_in, AreBlocksOf, AreBytesOf}
 use Rattle.block_codec.specs.declared.part.Part.{Part}
 use Rattle.block_codec.specs.declared.reader.Reader.{Reader}
+use Rattle.block_codec.specs.declared.table_decoder.TableDecoder.{TableDecoder}
 use Rattle.block_codec.specs.declared.window_decoder.WindowDecoder.{WindowDecoder}
+use Rattle.block_codec.specs.declared.window_decoder.WindowDecoder.TheVariants.{Short}
 use Rattle.block_codec.specs.inside.Packing.{HasRows}
 use Rattle.block_codec.specs.inside.Parts.{IsPart, Holds}
 use Rattle.block_codec.specs.inside.WindowDecoding.{IsMadeFor, HaveCome}
@@ -65,6 +67,23 @@ pub record GoesOn (c : CodeData) (text bytes more : List ℕ) (old new : List �
   pub given : List ℕ
   pub appended : new ≡ old ++ given
   pub reads : HasText c (text ++ more) (bytes ++ given) reader
+
+-- the reader with another decoder by a table, to which so many symbols more have come
+abbrev pub later_reader : Reader → TableDecoder → ℕ → Reader
+later_reader reader decoder count = record {
+  blocks = Short decoder;
+  symbols = reader.symbols;
+  bits = reader.bits;
+  digits = reader.digits;
+  count = reader.count + count;
+}
+
+-- A decoder by a table takes the digits at the front of a piece for a reader that holds it, and no symbols or bits: the
+-- text of the reader goes on by them.
+abbrev pub TakesGroups : CodeData → TableDecoder → TableDecoder → List ℕ → ℕ → List ℕ → List ℕ → Type 0
+TakesGroups c decoder later piece at old new = (text bytes : List ℕ) (reader : Reader) → reader.blocks ≡ Short decoder
+    → reader.symbols.count ≡ 0 → reader.bits.count ≡ 0 → HasText c text bytes reader
+    → GoesOn c text bytes (take at piece) old new (later_reader reader later at)
 
 -- the whole piece has come; or it has a byte that is neither a digit nor passed over, the first at this place
 pub record StopsAt (c : CodeData) (piece : List ℕ) (at : ℕ) : Type 0 where

@@ -103,7 +103,8 @@ edges_at states count = parts_from (λ before. one_line (edge_at states before))
 
 -- the lines up to the number of forbidden words
 unfoldable pub head_at : LineReader (ℕ × (Option ℕ × ℕ))
-head_at = below_line (codes "modcode 1") (below_line (codes "alphabet 2") (both_lines (one_line d_at) 1 (λ d. both_lines (one_line (k_at d)) 1 (λ k. one_line forbid_at))))
+head_at = below_line (codes "modcode 1") (below_line (codes "alphabet 2")
+    (both_lines (one_line d_at) 1 (λ d. both_lines (one_line (k_at d)) 1 (λ k. one_line forbid_at))))
 
 -- rate, window and states
 unfoldable pub sizes_at : LineReader ((ℕ × ℕ) × ((ℕ × ℕ) × ℕ))
@@ -122,7 +123,8 @@ Parts = (ℕ × (Option ℕ × ℕ)) × (List (List ℕ) × ((ℕ × ℕ) × (Li
 
 -- all lines
 unfoldable pub parts_at : LineReader Parts
-parts_at = both_lines head_at 5 (λ head. both_lines (forbidden_words_at head.1.1) head.1.1 (λ words. both_lines (one_line graph_at) 1 (λ graph. both_lines (edges_at graph.0 graph.1) graph.1 (λ edges.
+parts_at = both_lines head_at 5 (λ head. both_lines (forbidden_words_at head.1.1) head.1.1 (λ words.
+    both_lines (one_line graph_at) 1 (λ graph. both_lines (edges_at graph.0 graph.1) graph.1 (λ edges.
     both_lines sizes_at 3 (λ sizes. table_at sizes.0.0 sizes.0.1 sizes.1.1)))))
 
 -- the code that the parts make

@@ -21,7 +21,8 @@ IsUpTo u v = (u ≡ v) ⊎ IsBefore u v
 
 -- Numbers below `count` stand for states of the machine, each found by its word, in the order of the words; the edges
 -- lead where the machine leads, up to states from which the same words can be read.
-pub record IsExplored {S : Type 0} (step : S → ℕ → Option S) (start : S) (count : ℕ) (key : ℕ → S) (word : ℕ → List ℕ) (edge : ℕ → ℕ → ℕ → Type 0) : Type 0 where
+pub record IsExplored {S : Type 0} (step : S → ℕ → Option S) (start : S) (count : ℕ) (key : ℕ → S) (word : ℕ → List ℕ)
+    (edge : ℕ → ℕ → ℕ → Type 0) : Type 0 where
   pub root : (0 < count) × (key 0 ≡ start) × (word 0 ≡ [])
   -- an edge follows the machine
   pub follows : (i symbol m : ℕ) → edge i symbol m

@@ -54,7 +54,8 @@ abbrev pub IsDone : ℕ → ℕ → ℕ → ℕ → Type 0
 IsDone i symbol j s = (j < i) ⊎ ((j ≡ i) × (s < symbol))
 
 -- A breadth-first search that is at the state i and the symbol: what it has found, and what it knows of the places done.
-pub record IsSearching {S : Type 0} (step : S → ℕ → Option S) (start : S) (next : ℕ → ℕ → Option ℕ) (count : ℕ) (key : ℕ → S) (word : ℕ → List ℕ) (i symbol : ℕ) : Type 0 where
+pub record IsSearching {S : Type 0} (step : S → ℕ → Option S) (start : S) (next : ℕ → ℕ → Option ℕ) (count : ℕ)
+    (key : ℕ → S) (word : ℕ → List ℕ) (i symbol : ℕ) : Type 0 where
   pub some : 0 < count
   pub here : i ≤ count
   pub first : key 0 ≡ start

@@ -4,6 +4,8 @@ use Rattle.std.specs.List.{range_with_len}
 use Rattle.symbol_base.specs.Ascending.{IsAscending}
 use Rattle.label_graphs.specs.Graph.{EdgeData, IsEdgeBefore}
 use Rattle.split_spec.specs.Round.{SplitData, IsWhole}
+use Rattle.state_split.specs.declared.parts.Part.{Part}
+use Rattle.state_split.specs.declared.parts.Part.TheVariants.{First, Second}
 
 -- of so many states, this one's second part has this number
 pub record IsSecondPart (states : ℕ) (splits : List SplitData) (state part : ℕ) : Type 0 where
@@ -34,6 +36,11 @@ pub record ArePartWeights (x : List ℕ) (splits : List SplitData) (weights : Li
   pub run : (split : SplitData) → Contains splits split → slice_index weights split.state ≡ split.y
   pub rest : (place : ℕ) (split : SplitData) → slice_get splits place ≡ Some split
       → slice_index weights (length x + place) + split.y ≡ slice_index x split.state
+
+-- the first part takes the edges of the run, and the second one the others
+abbrev pub IsTakenBy : Part → List EdgeData → EdgeData → Type 0
+IsTakenBy First run e = Contains run e
+IsTakenBy Second run e = Contains run e → ⊥
 
 -- some edges of a row, in the row's order
 pub record ArePicked (row : List EdgeData) (IsPicked : EdgeData → Type 0) (edges : List EdgeData) : Type 0 where

@@ -10,9 +10,9 @@ joined_wide-words-requires-clause-digits c =
     let code = c.args.code.now in
     let window = c.last_digits_wide-window.result in
     let below : window < window_count code =
-    subst (λ n. window < 2 ^ (n * window_length code)) c.requires.q (subst (λ n. window < 2 ^ (c.args.q * n)) c.window_length.ensures.count c.last_digits_wide-window.ensures.below) in
+    subst (λ n. window < 2 ^ (n * window_length code)) c.requires.sizes.q (subst (λ n. window < 2 ^ (c.args.sizes.q * n)) c.requires.sizes.length c.last_digits_wide-window.ensures.below) in
     let answer : IsDecoded code (window_of code window) c.from.result = subst (λ w. IsDecoded code (window_of code window) w) (sym c.from.ensures) (c.requires.table.answer window below) in
-    subst (λ n. c.from.result < 2 ^ n) (sym c.requires.p) (decoded_below code (window_of code window) c.from.result answer)
+    subst (λ n. c.from.result < 2 ^ n) (sym c.requires.sizes.p) (decoded_below code (window_of code window) c.from.result answer)
 
 pub loop-k-preserved : goal.loop-k-preserved
 loop-k-preserved c =
@@ -23,15 +23,15 @@ loop-k-preserved c =
     let entry = c.from.result in
     let more = c.joined_wide-words.result in
     let below : window < window_count code =
-    subst (λ n. window < 2 ^ (n * window_length code)) c.requires.q (subst (λ n. window < 2 ^ (c.args.q * n)) c.window_length.ensures.count c.last_digits_wide-window.ensures.below) in
+    subst (λ n. window < 2 ^ (n * window_length code)) c.requires.sizes.q (subst (λ n. window < 2 ^ (c.args.sizes.q * n)) c.requires.sizes.length c.last_digits_wide-window.ensures.below) in
     let answer : IsDecoded code (window_of code window) entry = subst (λ w. IsDecoded code (window_of code window) w) (sym c.from.ensures) (c.requires.table.answer window below) in
     let window_is = c.last_digits_wide-window.ensures.value
-    ∙ ap (λ n. c.args.here / 2 ^ (c.args.q * (c.args.last - k)) % 2 ^ (c.args.q * n)) c.window_length.ensures.count
-    ∙ ap (λ n. c.args.here / 2 ^ (n * (c.args.last - k)) % 2 ^ (n * window_length code)) c.requires.q in
-    let more_is = c.joined_wide-words.ensures.value ∙ ap (λ n. words * 2 ^ n + entry) c.requires.p in
+    ∙ ap (λ n. c.args.here / 2 ^ (c.args.sizes.q * (c.args.last - k)) % 2 ^ (c.args.sizes.q * n)) c.requires.sizes.length
+    ∙ ap (λ n. c.args.here / 2 ^ (n * (c.args.last - k)) % 2 ^ (n * window_length code)) c.requires.sizes.q in
+    let more_is = c.joined_wide-words.ensures.value ∙ ap (λ n. words * 2 ^ n + entry) c.requires.sizes.p in
     let size = code.p * k + code.p in
     let whole : size ≡ code.p * (k + 1) = grind arith in
-    let small : more < 2 ^ size = subst (λ n. more < 2 ^ (n * k + n)) c.requires.p c.joined_wide-words.ensures.below in
+    let small : more < 2 ^ size = subst (λ n. more < 2 ^ (n * k + n)) c.requires.sizes.p c.joined_wide-words.ensures.below in
     words_more code c.args.last c.args.here k (c.args.last - k) window words entry more (omega (arith, c.loop-k-test.true)) window_is answer more_is (subst (λ n. more < 2 ^ n) whole small) c.loop-k.invariant
 
 pub returns-clause-words : goal.returns-clause-words

@@ -11,14 +11,14 @@ returns-clause-words c =
     let here = c.args.here in
     let early = c.last_digits_wide-early.result in
     let late = c.last_digits_wide-late.result in
-    let size : c.args.q * (c.window_length.result + 3) ≡ code.q * (window_length code + 3) =
-    ap (λ n. c.args.q * (n + 3)) c.window_length.ensures.count ∙ ap (λ n. n * (window_length code + 3)) c.requires.q in
-    let count : 2 ^ (c.args.q * (c.window_length.result + 3)) ≡ length fours = ap (λ n. 2 ^ n) size ∙ sym c.requires.fours.entries in
-    let early_is = c.last_digits_wide-early.ensures.value ∙ ap (λ n. here / 2 ^ (c.args.q * 4) % 2 ^ n) size ∙ ap (λ n. here / 2 ^ (n * 4) % 2 ^ (code.q * (window_length code + 3))) c.requires.q in
+    let size : c.args.sizes.q * (c.args.sizes.length + 3) ≡ code.q * (window_length code + 3) =
+    ap (λ n. c.args.sizes.q * (n + 3)) c.requires.sizes.length ∙ ap (λ n. n * (window_length code + 3)) c.requires.sizes.q in
+    let count : 2 ^ (c.args.sizes.q * (c.args.sizes.length + 3)) ≡ length fours = ap (λ n. 2 ^ n) size ∙ sym c.requires.fours.entries in
+    let early_is = c.last_digits_wide-early.ensures.value ∙ ap (λ n. here / 2 ^ (c.args.sizes.q * 4) % 2 ^ n) size ∙ ap (λ n. here / 2 ^ (n * 4) % 2 ^ (code.q * (window_length code + 3))) c.requires.sizes.q in
     let late_is = c.last_digits_wide-late.ensures.value ∙ ap (λ n. here % 2 ^ n) size in
     let first : IsFour code early c.from.result =
     subst (λ n. IsFour code early n) (sym c.from.ensures) (c.requires.fours.four early (subst (λ n. early < n) count c.last_digits_wide-early.ensures.below)) in
     let second : IsFour code late c.from-2.result =
     subst (λ n. IsFour code late n) (sym c.from-2.ensures) (c.requires.fours.four late (subst (λ n. late < n) count c.last_digits_wide-late.ensures.below)) in
-    let number_is = c.joined_wide.ensures.value ∙ ap (λ n. c.from.result * 2 ^ (n * 4) + c.from-2.result) c.requires.p in
+    let number_is = c.joined_wide.ensures.value ∙ ap (λ n. c.from.result * 2 ^ (n * 4) + c.from-2.result) c.requires.sizes.p in
     fours_joined code here early late c.from.result c.from-2.result c.joined_wide.result early_is late_is first second number_is

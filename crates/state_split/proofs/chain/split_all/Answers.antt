@@ -1,4 +1,5 @@
 use Rattle.std.proofs.Common.{◌≡◌, ℕ, ◌*◌, ◌^◌, ◌%◌, List, Bool, length, ap, sym, ◌∙◌, subst, arith}
+use Rattle.std.proofs.lemmas.List.{map-id}
 use Rattle.std.proofs.lemmas.Nat.{one_shl, pow_pos}
 use Rattle.label_graphs.specs.Kept.{IsKept, marked_states}
 use Rattle.label_graphs.specs.Refinement.{parents_of}
@@ -15,8 +16,9 @@ pub parents_of_kept-requires-clause-inside : goal.parents_of_kept-requires-claus
 parents_of_kept-requires-clause-inside c =
     let stage = c.in_ok-rounds.stage in
     let marks = c.in_ok-marks.marks.items in
-    let listed = c.deref-3.ensures.value ∙ c.in_ok-kept.ensures ∙ ap marked_states c.deref.ensures.value in
-    listed_inside marks (length stage.parents) c.deref-3.result.now (c.in_ok-marks.ensures.size ∙ c.in_ok-rounds.ensures.weights ∙ sym c.in_ok-rounds.ensures.parents) listed
+    let listed = c.deref-3.ensures.value ∙ sym (map-id c.in_ok-kept.kept.items) ∙ c.in_ok-kept.ensures ∙ ap marked_states c.deref.ensures.value in
+    listed_inside marks (length stage.parents) c.deref-3.result.now
+    (c.in_ok-marks.ensures.size ∙ c.in_ok-rounds.ensures.weights ∙ sym c.in_ok-rounds.ensures.parents) listed
 
 pub returns-clause-chain : goal.returns-clause-chain
 returns-clause-chain c =
@@ -36,7 +38,7 @@ returns-clause-chain c =
       kept = subst (λ (ms : List Bool). IsKept stage.graph ms last) c.deref-2.ensures.value c.in_ok-last.ensures.kept;
       graph = c.in_ok-last.ensures.graph;
     })
-    c.in_ok-kept.kept.items c.in_ok-parents.parents (c.in_ok-kept.ensures ∙ ap marked_states c.deref.ensures.value)
+    c.in_ok-kept.kept.items c.in_ok-parents.parents (sym (map-id c.in_ok-kept.kept.items) ∙ c.in_ok-kept.ensures ∙ ap marked_states c.deref.ensures.value)
     (c.in_ok-parents.ensures ∙ ap (λ (ss : List ℕ). parents_of stage.parents ss) c.deref-3.ensures.value)
 
 pub returns-clause-few : goal.returns-clause-few

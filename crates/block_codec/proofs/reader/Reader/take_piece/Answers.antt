@@ -19,16 +19,16 @@ pub loop-at-preserved-then-taken-gt0 : goal.loop-at-preserved-then-taken-gt0
 loop-at-preserved-then-taken-gt0 c =
     let held = c.loop-at.invariant in
     record {
-      code = c.take_group-taken.ensures.code;
-      within = omega (arith, c.take_group-taken.ensures.inside, held.within);
-      room = omega (arith, c.take_group-taken.ensures.len, held.room);
-      capacity = c.take_group-taken.ensures.capacity ∙ held.capacity;
-      count = omega (arith, c.take_group-taken.ensures.count, held.count);
-      front = front_more c.args.out.now.items c.loop-at.out.items c.take_group-taken.new.out.items held.front c.take_group-taken.ensures.front;
+      code = c.take_front-taken.ensures.code;
+      within = omega (arith, c.take_front-taken.ensures.inside, held.within);
+      room = omega (arith, c.take_front-taken.ensures.len, held.room);
+      capacity = c.take_front-taken.ensures.capacity ∙ held.capacity;
+      count = omega (arith, c.take_front-taken.ensures.count, held.count);
+      front = front_more c.args.out.now.items c.loop-at.out.items c.take_front-taken.new.out.items held.front c.take_front-taken.ensures.front;
       text =
           λ text bytes has.
-          piece_further c.args.code.now text bytes c.args.piece.now c.args.out.now.items c.loop-at.out.items c.take_group-taken.new.out.items c.loop-at.at c.take_group-taken.result c.loop-at.self c.take_group-taken.new.self
-          (held.text text bytes has) c.take_group-taken.ensures.text;
+          piece_further c.args.code.now text bytes c.args.piece.now c.args.out.now.items c.loop-at.out.items c.take_front-taken.new.out.items c.loop-at.at c.take_front-taken.result c.loop-at.self c.take_front-taken.new.self
+          (held.text text bytes has) c.take_front-taken.ensures.text;
     }
 
 pub loop-at-preserved : goal.loop-at-preserved
@@ -38,29 +38,29 @@ loop-at-preserved c =
     let piece = c.args.piece.now in
     let at = c.loop-at.at in
     let out = c.args.out.now.items in
-    let none : at + c.take_group-taken.result ≡ at = omega (arith, c.if-taken-gt0.false) in
-    let front = front_more out c.loop-at.out.items c.take_group-taken.new.out.items held.front c.take_group-taken.ensures.front in
+    let none : at + c.take_front-taken.result ≡ at = omega (arith, c.if-taken-gt0.false) in
+    let front = front_more out c.loop-at.out.items c.take_front-taken.new.out.items held.front c.take_front-taken.ensures.front in
     record {
       code = c.take_byte.ensures.code;
       within = omega (arith, c.loop-at-test.true);
-      room = omega (arith, c.take_byte.ensures.len, c.take_group-taken.ensures.len, held.room, none);
-      capacity = c.take_byte.ensures.capacity ∙ c.take_group-taken.ensures.capacity ∙ held.capacity;
-      count = omega (arith, c.take_byte.ensures.count, c.take_group-taken.ensures.count, held.count, none);
-      front = front_more out c.take_group-taken.new.out.items c.take_byte.new.out.items front c.take_byte.ensures.front;
+      room = omega (arith, c.take_byte.ensures.len, c.take_front-taken.ensures.len, held.room, none);
+      capacity = c.take_byte.ensures.capacity ∙ c.take_front-taken.ensures.capacity ∙ held.capacity;
+      count = omega (arith, c.take_byte.ensures.count, c.take_front-taken.ensures.count, held.count, none);
+      front = front_more out c.take_front-taken.new.out.items c.take_byte.new.out.items front c.take_byte.ensures.front;
       text =
           λ text bytes has.
           let quiet =
-          subst (λ n. GoesOn code text bytes (take n piece) out c.take_group-taken.new.out.items c.take_group-taken.new.self) none
-          (piece_further code text bytes piece out c.loop-at.out.items c.take_group-taken.new.out.items at c.take_group-taken.result c.loop-at.self c.take_group-taken.new.self
-          (held.text text bytes has) c.take_group-taken.ensures.text) in
-          goes_further code text bytes (take at piece) (_ ∷ []) (take (at + 1) piece) out c.take_group-taken.new.out.items c.take_byte.new.out.items c.take_group-taken.new.self c.take_byte.new.self
+          subst (λ n. GoesOn code text bytes (take n piece) out c.take_front-taken.new.out.items c.take_front-taken.new.self) none
+          (piece_further code text bytes piece out c.loop-at.out.items c.take_front-taken.new.out.items at c.take_front-taken.result c.loop-at.self c.take_front-taken.new.self
+          (held.text text bytes has) c.take_front-taken.ensures.text) in
+          goes_further code text bytes (take at piece) (_ ∷ []) (take (at + 1) piece) out c.take_front-taken.new.out.items c.take_byte.new.out.items c.take_front-taken.new.self c.take_byte.new.self
           (take_more piece at 0 c.loop-at-test.true) quiet (c.take_byte.ensures.text c.if-take_byte.true);
     }
 
 pub returns-else-take_byte-clause-front : goal.returns-else-take_byte-clause-front
 returns-else-take_byte-clause-front c =
-    let group = front_more c.args.out.now.items c.loop-at.out.items c.take_group-taken.new.out.items c.loop-at.invariant.front c.take_group-taken.ensures.front in
-    front_more c.args.out.now.items c.take_group-taken.new.out.items c.take_byte.new.out.items group c.take_byte.ensures.front
+    let group = front_more c.args.out.now.items c.loop-at.out.items c.take_front-taken.new.out.items c.loop-at.invariant.front c.take_front-taken.ensures.front in
+    front_more c.args.out.now.items c.take_front-taken.new.out.items c.take_byte.new.out.items group c.take_byte.ensures.front
 
 pub returns-else-take_byte-clause-text : goal.returns-else-take_byte-clause-text
 returns-else-take_byte-clause-text c = λ text bytes has.

@@ -1,0 +1,2 @@
+-- What private functions of this crate alone cite.
+pub mod Beginning

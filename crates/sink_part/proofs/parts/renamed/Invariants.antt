@@ -1,6 +1,0 @@
-use Rattle.std.proofs.Common.{◌≡◌, take}
-use Rattle.label_graphs.specs.Views.{rows_data}
-use Rattle.sink_part.proofs.parts.renamed.Given as goal
-
-abbrev pub invariant-loop-state : goal.invariant-loop-state
-invariant-loop-state l = rows_data (λ name. name) l.rows.items ≡ take l.state l.graph
