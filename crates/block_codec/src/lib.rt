@@ -37,6 +37,3 @@ pub use fault::TextFault;
 pub use laws::plain_text_gives_its_file;
 pub use text_decoder::TextDecoder;
 pub use text_writer::TextWriter;
-
-#[cfg(test)]
-mod tests;

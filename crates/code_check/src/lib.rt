@@ -46,6 +46,3 @@ pub fn a_code_has_one_answer()
     least_ambiguous_pair_is_one();
     least_words_outside_are_one();
 }
-
-#[cfg(test)]
-mod tests;

@@ -7,6 +7,3 @@ mod code;
 pub use checked::CheckedCode;
 pub use code::Code;
 pub use code_spec::CodeRow;
-
-#[cfg(test)]
-mod tests;

@@ -15,6 +15,3 @@ pub use fault::CodeTextFault;
 pub use laws::{code_or_wrong_line, kept_lines_have_no_line_feed, text_is_read_back};
 pub use read::read_code;
 pub use text::{code_text, write_block};
-
-#[cfg(test)]
-mod tests;

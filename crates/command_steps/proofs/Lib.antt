@@ -2,3 +2,4 @@ pub mod StepLaws
 pub mod EndLaws
 mod InputLaws
 mod PrintLaws
+mod Examples

@@ -6,7 +6,7 @@ use Rattle.command_steps.specs.declared.status.Status.{Status}
 use Rattle.command_steps.specs.declared.status.Status.TheVariants.{FileTooLong, ConstraintRefused, TooLarge, CodeRefused, ChannelRefused, NoMemory, FileMissing, InfiniteMemory, NoVector}
 use Rattle.constraint_file_spec.specs.declared.fault.ConstraintFault.{ConstraintFault}
 use Rattle.command_steps.specs.declared.status.ChannelFault.{ChannelFault}
-use Rattle.min_cover.specs.declared.fault.TwoStates.{TwoStates}
+use Rattle.label_graphs.specs.declared.read_back.TwoStates.{TwoStates}
 use Rattle.command_steps.specs.declared.status.CodeFault.{CodeFault}
 use Rattle.command_steps.specs.declared.status.Limit.{Limit}
 use Rattle.command_steps.specs.Step.{Step, Gives, gives, Then, stops, goes_on, Needs, holds, fails, Reads, understood, refused_for, InputAt, missing, too_long, found, IsSingle}

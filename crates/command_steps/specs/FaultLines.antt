@@ -1,7 +1,6 @@
 -- The lines that say why a file or a constraint is refused, each with its line feed.
 use Rattle.std.specs.Prelude.{ℕ, List, [], ◌∷◌, ◌++◌, flat_map, codes}
 use Rattle.std.specs.Fmt.{decimal}
-use Rattle.code_spec.specs.declared.Walk.{Walk}
 use Rattle.constraint_file_spec.specs.Keys.{key_name}
 use Rattle.constraint_file_spec.specs.declared.fault.ConstraintFault.{ConstraintFault}
 use Rattle.constraint_file_spec.specs.declared.fault.ConstraintFault.TheVariants.{NotToml, UnknownKey, WrongType, OutOfRange, DAboveK, TooMany, BadWord, BadEdge, NoMemory}
@@ -11,7 +10,7 @@ use Rattle.command_steps.specs.declared.status.CodeFault.{CodeFault}
 use Rattle.command_steps.specs.declared.status.CodeFault.TheVariants.{BadCode, OutOfConstraint, Ambiguous}
 use Rattle.command_steps.specs.declared.status.Limit.{Limit}
 use Rattle.command_steps.specs.declared.status.Limit.TheVariants.{RawStates, CoverStates, MemoryTooLong, PowerEdges, Weight, Spread}
-use Rattle.min_cover.specs.declared.fault.TwoStates.{TwoStates}
+use Rattle.label_graphs.specs.declared.read_back.TwoStates.{TwoStates}
 
 -- a line, and its line feed
 abbrev line : List ℕ → List ℕ

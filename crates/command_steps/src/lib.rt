@@ -7,8 +7,6 @@ mod input;
 mod lines;
 mod printing;
 mod status;
-#[cfg(test)]
-mod tests;
 
 pub use answer::{Reply, deliver};
 pub use input::read_input;

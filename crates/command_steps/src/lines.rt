@@ -7,7 +7,7 @@ ghost use Rattle.command_steps.specs.FaultLines.{behind_spaces, line_of_constrai
 use crate::status::{ChannelFault, CodeFault, Limit, Status};
 use code_spec::Walk;
 use constraint_file_spec::{ConstraintFault, Key};
-use min_cover::TwoStates;
+use label_graphs::TwoStates;
 use std::alloc::Global;
 use symbol_base::{ByteList, Name, NoMemory};
 

@@ -3,7 +3,7 @@ ghost use Rattle.command_steps.specs.StatusLine.{exit_status};
 
 use code_spec::Walk;
 use constraint_file_spec::ConstraintFault;
-use min_cover::TwoStates;
+use label_graphs::TwoStates;
 use std::alloc::{AllocError, AllocFailed};
 use symbol_base::{NoMemory, WordList};
 

@@ -12,6 +12,3 @@ mod values;
 pub use constraint_file_spec::{ConstraintFault, Key};
 pub use read::read_constraint;
 pub use text::{constraint_text, write_constraint, write_digit};
-
-#[cfg(test)]
-mod tests;

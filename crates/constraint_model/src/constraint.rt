@@ -83,6 +83,3 @@ fn copy_of_lists(alloc: Global, lists: &[ByteList]) -> Result<Vec<ByteList>, NoM
     }
     Ok(copies)
 }
-
-#[cfg(test)]
-mod tests;

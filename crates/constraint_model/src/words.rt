@@ -98,6 +98,3 @@ fn lengthened(d: usize, front: Front, symbol: u8) -> Front
         least: if symbol == 1 { d } else { kept },
     }
 }
-
-#[cfg(test)]
-mod tests;

@@ -1,5 +1,6 @@
 -- The definitions on small constraints: each list of words was found by hand.
-use Rattle.std.proofs.Common.{◌≡◌, ℕ, ◌^◌, ◌<◌, List, [], ◌∷◌, filter, map, Some, None, true, false, refl, arith}
+use Rattle.std.proofs.Common.{◌≡◌, ℕ, ◌^◌, ◌<◌, List, [], ◌∷◌, filter, map, Some, None, Bool, true, false, refl, arith}
+use Rattle.std.specs.Prelude.{replicate}
 use Rattle.std.specs.List.{range_with_len}
 use Rattle.std.proofs.lemmas.Bool.{both_ways}
 use Rattle.std.proofs.lemmas.List.Elements.{All-from_recursion}
@@ -168,3 +169,113 @@ word-121 = refl
 
 no_word-101 : may_be_read three_symbols (first_raw_state three_symbols) (1 ∷ 0 ∷ 1 ∷ []) ≡ false
 no_word-101 = refl
+
+-- which of some words belong to a constraint
+abbrev belong : ConstraintData → List (List ℕ) → List Bool
+belong c list = map (may_be_read c (first_raw_state c)) list
+
+-- one to three 0s between 1s
+abbrev one_to_three : ConstraintData
+one_to_three = record { alphabet = 2; d = 1; k = Some 3; forbid = []; states = 0; edges = [] }
+
+words_of-one_to_three : belong one_to_three ([] ∷ (0 ∷ []) ∷ (1 ∷ []) ∷ (1 ∷ 0 ∷ 1 ∷ []) ∷ (1 ∷ 0 ∷ 0 ∷ 1 ∷ []) ∷ (1 ∷ 0 ∷ 0 ∷ 0 ∷ 1 ∷ []) ∷ (0 ∷ 0 ∷ 0 ∷ 1 ∷ []) ∷ (1 ∷ 0 ∷ 0 ∷ 0 ∷ []) ∷ (0 ∷ 1 ∷ 0 ∷ 0 ∷ 1 ∷ 0 ∷ 0 ∷ 0 ∷ 1 ∷ []) ∷ []) ≡ replicate 9 true
+words_of-one_to_three = refl
+
+no_words_of-one_to_three : belong one_to_three ((1 ∷ 1 ∷ []) ∷ (1 ∷ 0 ∷ 0 ∷ 0 ∷ 0 ∷ 1 ∷ []) ∷ (0 ∷ 0 ∷ 0 ∷ 0 ∷ 1 ∷ []) ∷ (1 ∷ 0 ∷ 0 ∷ 0 ∷ 0 ∷ []) ∷ (0 ∷ 1 ∷ 1 ∷ 0 ∷ []) ∷ (2 ∷ []) ∷ (1 ∷ 2 ∷ 1 ∷ []) ∷ []) ≡ replicate 7 false
+no_words_of-one_to_three = refl
+
+-- two to seven 0s between 1s: the first and the last run may be shorter
+abbrev two_to_seven : ConstraintData
+two_to_seven = record { alphabet = 2; d = 2; k = Some 7; forbid = []; states = 0; edges = [] }
+
+words_of-two_to_seven : belong two_to_seven ((1 ∷ []) ∷ (0 ∷ 1 ∷ []) ∷ (1 ∷ 0 ∷ []) ∷ (0 ∷ 1 ∷ 0 ∷ []) ∷ (1 ∷ 0 ∷ 0 ∷ 1 ∷ []) ∷ (0 ∷ 1 ∷ 0 ∷ 0 ∷ 1 ∷ 0 ∷ []) ∷ (1 ∷ 0 ∷ 0 ∷ 0 ∷ 0 ∷ 0 ∷ 0 ∷ 0 ∷ 1 ∷ []) ∷ []) ≡ replicate 7 true
+words_of-two_to_seven = refl
+
+no_words_of-two_to_seven : belong two_to_seven ((1 ∷ 0 ∷ 1 ∷ []) ∷ (0 ∷ 1 ∷ 0 ∷ 0 ∷ 1 ∷ 0 ∷ 1 ∷ 0 ∷ []) ∷ (1 ∷ 0 ∷ 0 ∷ 0 ∷ 0 ∷ 0 ∷ 0 ∷ 0 ∷ 0 ∷ 1 ∷ []) ∷ (0 ∷ 0 ∷ 0 ∷ 0 ∷ 0 ∷ 0 ∷ 0 ∷ 0 ∷ []) ∷ []) ≡ replicate 4 false
+no_words_of-two_to_seven = refl
+
+-- no two 0s in a row
+abbrev single_zeros : ConstraintData
+single_zeros = record { alphabet = 2; d = 0; k = Some 1; forbid = []; states = 0; edges = [] }
+
+words_of-single_zeros : belong single_zeros ((0 ∷ 1 ∷ 1 ∷ 0 ∷ []) ∷ (1 ∷ 0 ∷ 1 ∷ 0 ∷ 1 ∷ []) ∷ []) ≡ replicate 2 true
+words_of-single_zeros = refl
+
+no_words_of-single_zeros : belong single_zeros ((0 ∷ 0 ∷ 1 ∷ 0 ∷ []) ∷ (0 ∷ 1 ∷ 0 ∷ 0 ∷ []) ∷ (0 ∷ 2 ∷ []) ∷ []) ≡ replicate 3 false
+no_words_of-single_zeros = refl
+
+-- no 0 at all
+abbrev no_zero : ConstraintData
+no_zero = record { alphabet = 2; d = 0; k = Some 0; forbid = []; states = 0; edges = [] }
+
+words_of-no_zero : belong no_zero ([] ∷ (1 ∷ 1 ∷ 1 ∷ []) ∷ []) ≡ replicate 2 true
+words_of-no_zero = refl
+
+no_words_of-no_zero : belong no_zero ((0 ∷ []) ∷ (1 ∷ 0 ∷ 1 ∷ []) ∷ []) ≡ replicate 2 false
+no_words_of-no_zero = refl
+
+-- three 0s between 1s, or more
+abbrev three_or_more : ConstraintData
+three_or_more = record { alphabet = 2; d = 3; k = None; forbid = []; states = 0; edges = [] }
+
+words_of-three_or_more : belong three_or_more ((0 ∷ 0 ∷ []) ∷ (1 ∷ 0 ∷ 0 ∷ 0 ∷ 1 ∷ []) ∷ (1 ∷ 0 ∷ 0 ∷ 0 ∷ 0 ∷ 0 ∷ 0 ∷ 0 ∷ 0 ∷ 0 ∷ 0 ∷ 0 ∷ 0 ∷ 1 ∷ []) ∷ []) ≡ replicate 3 true
+words_of-three_or_more = refl
+
+no_words_of-three_or_more : belong three_or_more ((1 ∷ 1 ∷ []) ∷ (1 ∷ 0 ∷ 0 ∷ 1 ∷ []) ∷ []) ≡ replicate 2 false
+no_words_of-three_or_more = refl
+
+-- a symbol above 1 ends a run, and asks for no 0s
+abbrev over_three : ConstraintData
+over_three = record { alphabet = 3; d = 1; k = Some 2; forbid = []; states = 0; edges = [] }
+
+words_of-over_three : belong over_three ((1 ∷ 2 ∷ 1 ∷ []) ∷ (1 ∷ 0 ∷ 1 ∷ []) ∷ (1 ∷ 0 ∷ 2 ∷ 1 ∷ []) ∷ (1 ∷ 2 ∷ 0 ∷ 1 ∷ []) ∷ (0 ∷ 0 ∷ 2 ∷ 0 ∷ 0 ∷ []) ∷ []) ≡ replicate 5 true
+words_of-over_three = refl
+
+no_words_of-over_three : belong over_three ((1 ∷ 1 ∷ []) ∷ (2 ∷ 1 ∷ 1 ∷ 2 ∷ []) ∷ (2 ∷ 0 ∷ 0 ∷ 0 ∷ 2 ∷ []) ∷ (1 ∷ 3 ∷ 1 ∷ []) ∷ []) ≡ replicate 4 false
+no_words_of-over_three = refl
+
+-- the same over four symbols
+abbrev over_four : ConstraintData
+over_four = record { alphabet = 4; d = 2; k = None; forbid = []; states = 0; edges = [] }
+
+words_of-over_four : belong over_four ((1 ∷ 3 ∷ 1 ∷ []) ∷ (3 ∷ 2 ∷ 3 ∷ 0 ∷ 0 ∷ 0 ∷ 2 ∷ []) ∷ []) ≡ replicate 2 true
+words_of-over_four = refl
+
+no_words_of-over_four : belong over_four ((3 ∷ 1 ∷ 0 ∷ 1 ∷ []) ∷ (1 ∷ 4 ∷ 1 ∷ []) ∷ []) ≡ replicate 2 false
+no_words_of-over_four = refl
+
+-- neither 11 nor 010
+abbrev no_pair : ConstraintData
+no_pair = record { alphabet = 2; d = 0; k = None; forbid = (1 ∷ 1 ∷ []) ∷ (0 ∷ 1 ∷ 0 ∷ []) ∷ []; states = 0; edges = [] }
+
+words_of-no_pair : belong no_pair ([] ∷ (1 ∷ []) ∷ (0 ∷ 1 ∷ []) ∷ (1 ∷ 0 ∷ []) ∷ (0 ∷ 0 ∷ 1 ∷ []) ∷ (1 ∷ 0 ∷ 1 ∷ []) ∷ (1 ∷ 0 ∷ 0 ∷ 1 ∷ []) ∷ (0 ∷ 0 ∷ 0 ∷ 0 ∷ []) ∷ []) ≡ replicate 8 true
+words_of-no_pair = refl
+
+no_words_of-no_pair : belong no_pair ((1 ∷ 1 ∷ []) ∷ (0 ∷ 1 ∷ 0 ∷ []) ∷ (0 ∷ 1 ∷ 1 ∷ []) ∷ (1 ∷ 1 ∷ 0 ∷ []) ∷ (1 ∷ 0 ∷ 1 ∷ 0 ∷ []) ∷ []) ≡ replicate 5 false
+no_words_of-no_pair = refl
+
+-- the walks of a graph, from any of its states
+abbrev three_levels : ConstraintData
+three_levels = record { alphabet = 2; d = 0; k = None; forbid = []; states = 3; edges = edge 0 1 1 ∷ edge 1 0 0 ∷ edge 1 1 2 ∷ edge 2 0 1 ∷ [] }
+
+words_of-three_levels : belong three_levels ([] ∷ (0 ∷ []) ∷ (1 ∷ []) ∷ (0 ∷ 0 ∷ []) ∷ (1 ∷ 1 ∷ []) ∷ (1 ∷ 1 ∷ 0 ∷ 1 ∷ []) ∷ (1 ∷ 0 ∷ 0 ∷ []) ∷ (1 ∷ 0 ∷ 0 ∷ 1 ∷ 1 ∷ []) ∷ (1 ∷ 1 ∷ 0 ∷ 0 ∷ []) ∷ (0 ∷ 1 ∷ 0 ∷ 0 ∷ []) ∷ (0 ∷ 0 ∷ 1 ∷ 1 ∷ 0 ∷ []) ∷ []) ≡ replicate 11 true
+words_of-three_levels = refl
+
+no_words_of-three_levels : belong three_levels ((0 ∷ 0 ∷ 0 ∷ []) ∷ (1 ∷ 1 ∷ 1 ∷ []) ∷ (1 ∷ 1 ∷ 0 ∷ 1 ∷ 1 ∷ []) ∷ (0 ∷ 0 ∷ 1 ∷ 0 ∷ 0 ∷ []) ∷ (0 ∷ 0 ∷ 2 ∷ []) ∷ []) ≡ replicate 5 false
+no_words_of-three_levels = refl
+
+words_of-all_parts : belong all_parts ([] ∷ (0 ∷ []) ∷ (0 ∷ 0 ∷ []) ∷ (0 ∷ 0 ∷ 0 ∷ []) ∷ []) ≡ replicate 4 true
+words_of-all_parts = refl
+
+no_words_of-all_parts : belong all_parts ((0 ∷ 0 ∷ 0 ∷ 0 ∷ []) ∷ (1 ∷ []) ∷ (0 ∷ 1 ∷ []) ∷ (1 ∷ 0 ∷ []) ∷ (1 ∷ 1 ∷ []) ∷ (0 ∷ 2 ∷ []) ∷ []) ≡ replicate 6 false
+no_words_of-all_parts = refl
+
+-- all parts, each of which refuses a word that the others allow
+abbrev parts_that_matter : ConstraintData
+parts_that_matter = record { alphabet = 2; d = 2; k = Some 3; forbid = (1 ∷ 0 ∷ 0 ∷ 0 ∷ 1 ∷ 0 ∷ 0 ∷ 0 ∷ 1 ∷ []) ∷ []; states = 2; edges = edge 0 0 1 ∷ edge 0 1 1 ∷ edge 1 0 0 ∷ [] }
+
+words_of-parts_that_matter : belong parts_that_matter ([] ∷ (1 ∷ []) ∷ (1 ∷ 0 ∷ 0 ∷ 0 ∷ 1 ∷ []) ∷ (0 ∷ 1 ∷ 0 ∷ 0 ∷ 0 ∷ 1 ∷ 0 ∷ []) ∷ (0 ∷ 0 ∷ 0 ∷ []) ∷ (1 ∷ 0 ∷ 0 ∷ 0 ∷ 1 ∷ 0 ∷ 0 ∷ 0 ∷ []) ∷ []) ≡ replicate 6 true
+words_of-parts_that_matter = refl
+
+no_words_of-parts_that_matter : belong parts_that_matter ((1 ∷ 0 ∷ 1 ∷ []) ∷ (0 ∷ 0 ∷ 0 ∷ 0 ∷ []) ∷ (1 ∷ 0 ∷ 0 ∷ 1 ∷ []) ∷ (1 ∷ 0 ∷ 0 ∷ 0 ∷ 1 ∷ 0 ∷ 0 ∷ 0 ∷ 1 ∷ []) ∷ (0 ∷ 1 ∷ 0 ∷ 0 ∷ 0 ∷ 1 ∷ 0 ∷ 0 ∷ 0 ∷ 1 ∷ 0 ∷ []) ∷ (1 ∷ 0 ∷ 0 ∷ 0 ∷ 3 ∷ []) ∷ []) ≡ replicate 6 false
+no_words_of-parts_that_matter = refl

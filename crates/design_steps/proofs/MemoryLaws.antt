@@ -2,7 +2,7 @@
 use Rattle.std.proofs.Common.{◌≡◌, ℕ, ◌≤◌, List, length, Ok, Err, refl, ap, ◌∙◌, arith}
 use Rattle.label_graphs.specs.Graph.{EdgeData, HasEdge}
 use Rattle.label_graphs.specs.Memory.{IsMemory}
-use Rattle.min_cover.specs.declared.fault.TwoStates.{TwoStates}
+use Rattle.label_graphs.specs.declared.read_back.TwoStates.{TwoStates}
 use Rattle.min_cover.specs.declared.fault.MemoryFault.{MemoryFault}
 use Rattle.min_cover.specs.declared.fault.MemoryFault.TheVariants as faults
 use Rattle.min_cover.specs.MemoryFault.{IsMemoryFault}

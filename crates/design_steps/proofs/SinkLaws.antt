@@ -16,8 +16,8 @@ use Rattle.command_steps.specs.declared.status.Status.TheVariants.{TooLarge}
 use Rattle.command_steps.specs.Step.{IsSingle}
 use Rattle.command_steps.specs.Promise.{Decides}
 use Rattle.command_steps.proofs.StepLaws.{reads_value, reads_is_single, needs_is_single, needs_met, needs_unmet, then_is_single, gives_is_single, too_large_is_refusal}
-use Rattle.sink_part.specs.declared.parts.SinkGraph.{SinkGraph}
-use Rattle.sink_part.proofs.LinkRows.{source_of}
+use Rattle.label_graphs.specs.declared.sink_graph.SinkGraph.{SinkGraph}
+use Rattle.label_graphs.proofs.Renumbered.{source_of}
 use Rattle.design_steps.specs.Sinks.{SinkData, IsSinkOf, FindsSink, NeedsWeight, NeedsSpread, SinkOf}
 use Rattle.design_steps.specs.Chains.{weighted_sink}
 use Rattle.design_steps.specs.Views.{sink_data}

@@ -1,5 +1,5 @@
 -- What the values of a design stand for.
-use Rattle.sink_part.specs.declared.parts.SinkGraph.{SinkGraph}
+use Rattle.label_graphs.specs.declared.sink_graph.SinkGraph.{SinkGraph}
 use Rattle.state_split.specs.Chains.{chain_data}
 use Rattle.design_steps.specs.declared.splitting.SplitDesign.{SplitDesign}
 use Rattle.design_steps.specs.Sinks.{SinkData}

@@ -11,8 +11,7 @@ ghost use Rattle.design_steps.specs.inside.Beginning.{begun_data};
 use crate::stages::{cover_of, memory_of, power_of, sink_of, vector_of};
 use command_steps::Status;
 use constraint_model::Constraint;
-use label_graphs::{Cover, Graph, Weights};
-use sink_part::SinkGraph;
+use label_graphs::{Cover, Graph, SinkGraph, Weights};
 use std::alloc::Global;
 use symbol_base::CoverName;
 

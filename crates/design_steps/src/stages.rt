@@ -18,9 +18,9 @@ use command_steps::{Limit, Status};
 use constraint_model::Constraint;
 use franaszek::least_bound;
 use graph_power::{PowerFault, counts, power};
-use label_graphs::{Cover, Graph, Weights};
+use label_graphs::{Cover, Graph, SinkGraph, Weights};
 use min_cover::{CoverFault, MemoryFault, cover, memory};
-use sink_part::{SinkGraph, sink, spread};
+use sink_part::{sink, spread};
 use std::alloc::Global;
 use symbol_base::{CoverName, NoMemory};
 

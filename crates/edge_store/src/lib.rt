@@ -7,6 +7,3 @@ mod raw_box;
 mod rows;
 
 pub use rows::RowList;
-
-#[cfg(test)]
-mod tests;

@@ -6,6 +6,3 @@ mod descent;
 
 pub use bound::least_bound;
 pub use descent::greatest;
-
-#[cfg(test)]
-mod tests;

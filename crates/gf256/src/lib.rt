@@ -11,8 +11,6 @@ mod tables;
 pub use linear::{null_vector, solve};
 use tables::{alpha_power, logarithm};
 
-#[cfg(test)]
-mod tests;
 
 /// An element of the field: a polynomial over the two-element field of degree below 8, in a byte
 /// whose bit i is the coefficient of x^i.

@@ -8,6 +8,3 @@ mod listing;
 pub use counting::counts;
 pub use fault::PowerFault;
 pub use listing::power;
-
-#[cfg(test)]
-mod tests;

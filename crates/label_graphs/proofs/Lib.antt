@@ -2,6 +2,7 @@ pub mod WordOrder
 pub mod Unique
 pub mod EdgeOrder
 pub mod Ranks
+pub mod Marks
 pub mod Renumbered
 pub mod Searching
 pub mod Sums

@@ -2,7 +2,8 @@
 use Rattle.std.proofs.Common.{◌≡◌, ℕ, zero, suc, ◌+◌, ◌<◌, List, [], ◌∷◌, ◌++◌, length, get_or, map, Bool, true, false, cond, inl, inr, refl, ap, sym, ◌∙◌, subst, arith}
 use Rattle.std.specs.Global.{Vec}
 use Rattle.std.specs.Prelude.{filter, All, Contains, slice_index}
-use Rattle.std.proofs.lemmas.List.{get_or-map, length-map, map-append}
+use Rattle.std.proofs.lemmas.Bool.{cases_lt}
+use Rattle.std.proofs.lemmas.List.{get_or-map, get_or_past, length-map, map-append}
 use Rattle.std.proofs.lemmas.List.Elements.{Contains-get_or}
 use Rattle.symbol_base.specs.Ascending.{IsAscending}
 use Rattle.symbol_base.proofs.AscendingNumbers.{filter_keeps, filter_kept}
@@ -87,6 +88,15 @@ row_left test graph n rows fails known =
 kept_row : (test : ℕ → Bool) (graph : List (List EdgeData)) (n i : ℕ) (d : List EdgeData) → i < rank test n
     → get_or (kept_rows test graph n) i d ≡ renumbered test (get_or graph (get_or (passing test n) i 0) [])
 kept_row test graph n i d inside = get_or-map (λ state. renumbered test (get_or graph state [])) (passing test n) i 0 d inside
+
+-- a state with an edge is one of the graph
+pub source_of : (rows : List (List EdgeData)) (from block to : ℕ) → HasEdge rows from block to → from < length rows
+source_of rows from block to edge = elim (cases_lt from (length rows)) [
+  | inl inside ↦ inside
+  | inr past ↦ (
+      let none : length (get_or rows from []) ≡ 0 = ap (λ (es : List EdgeData). length es) (get_or_past rows from [] past) in
+      absurd (omega (arith, edge.1, none)))
+]
 
 pub target_of : (graph : List (List EdgeData)) (state block to : ℕ) → IsGraph graph → state < length graph → HasEdge graph state block to → to < length graph
 target_of graph state block to known inside edge =

@@ -15,14 +15,18 @@ mod graph;
 mod kept;
 mod matrix;
 mod reached;
+mod read_back;
 mod refinement;
+mod sink_graph;
 mod weights;
 
 pub use graph::{Cover, Edge, Graph};
 pub use kept::{keep, marked_names};
 pub use matrix::Matrix;
 pub use reached::reach;
+pub use read_back::TwoStates;
 pub use refinement::{Refinement, compose};
+pub use sink_graph::SinkGraph;
 pub use weights::Weights;
 
 /// Words have one cover: two of the same words have the same states and the same edges.
@@ -72,6 +76,3 @@ pub fn composed_refinements_keep_edges()
         → KeepsEdges fine middle parents → KeepsEdges middle coarse grandparents
         → KeepsEdges fine coarse (parents_of grandparents parents) }
 {}
-
-#[cfg(test)]
-mod tests;

@@ -20,6 +20,3 @@ pub struct Arc {
     pub label: u32,
     pub to: usize,
 }
-
-#[cfg(test)]
-mod tests;

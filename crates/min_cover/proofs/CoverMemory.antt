@@ -1,10 +1,9 @@
 -- On a cover the memory of the graph is that of the constraint.
-use Rattle.std.proofs.Common.{◌≡◌, ◌↔◌, ℕ, ◌<◌, ◌⊎◌, inl, inr, List, [], ◌∷◌, ◌++◌, length, refl, sym, ◌∙◌, subst, arith}
+use Rattle.std.proofs.Common.{◌≡◌, ◌↔◌, ℕ, ◌<◌, inl, inr, List, [], ◌∷◌, ◌++◌, length, sym, ◌∙◌, subst}
 use Rattle.std.proofs.lemmas.Bool.{cases_order}
 use Rattle.symbol_base.specs.Walk.{IsWalk}
 use Rattle.symbol_base.proofs.Walks.{walk-join, walk-part}
 use Rattle.constraint_spec.specs.Constraint.{ConstraintData, IsWordOf}
-use Rattle.constraint_spec.specs.Word.{IsFactor}
 use Rattle.constraint_spec.proofs.Factors.{IsFactor-end}
 use Rattle.constraint_spec.proofs.Words.{IsWordOf-factor}
 use Rattle.label_graphs.specs.Cover.{IsReadFrom, TellsApart, IsCover}

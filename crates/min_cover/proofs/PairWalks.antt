@@ -4,7 +4,7 @@ use Rattle.std.specs.Prelude.{nat_eq, nat_lt, unwrap_or}
 use Rattle.std.specs.Ordering.{nat_cmp, ord_max, is_lt}
 use Rattle.std.proofs.lemmas.Option.{none-some}
 use Rattle.std.proofs.lemmas.Bool.{cases_eq, cases_lt, cases_order, true≢false}
-use Rattle.std.proofs.lemmas.List.{get_or_append_left, get_or_push, get_or-set_same, get_or-set_other, get_or_past, length-set, length-replicate}
+use Rattle.std.proofs.lemmas.List.{get_or_append_left, get_or_push, get_or-set_same, get_or-set_other, get_or_past, length-replicate}
 use Rattle.std.proofs.lemmas.Nat.{div-mul-add, mod-mul-add, div-add-mod', mul-add-lt}
 use Rattle.std.proofs.Math.Nat.{mul-le-mul_right}
 use Rattle.symbol_base.specs.Walk.{IsWalk}
@@ -13,12 +13,12 @@ use Rattle.symbol_base.proofs.Walks.{walk-join}
 use Rattle.label_graphs.specs.Graph.{EdgeData, HasEdge, IsGraph}
 use Rattle.label_graphs.specs.Memory.{EndTogether, IsMemory, ReadBack, IsLeastReadBack}
 use Rattle.least_walks.specs.LeastWalk.{IsLeastWalk}
-use Rattle.min_cover.specs.inside.Pairs.{pair_count, pair_step, Leads, HasWalk, IsOnCycle, HasCycle}
+use Rattle.min_cover.specs.inside.Pairs.{pair_count, pair_step, Leads, HasWalk, IsOnCycle}
 use Rattle.min_cover.specs.inside.Finishing.{number_at, IsOrder}
 use Rattle.min_cover.specs.inside.Order.{IsAbove, IsLongest, NoneSpans, AreSpanned, IsLeastBack}
 use Rattle.min_cover.proofs.CoverMemory.{one_end}
 use Rattle.min_cover.proofs.Pigeons.{pigeons}
-use Rattle.min_cover.proofs.PairLaws.{IsSingle, step_parts, states_inside, step_inside, walks_of_pairs, pairs_of_walks}
+use Rattle.min_cover.proofs.PairLaws.{IsSingle, step_parts, states_inside, walks_of_pairs, pairs_of_walks}
 
 -- an order has no more places than there are numbers
 pub order_size : (step : ℕ → ℕ → Option ℕ) (count : ℕ) (finished places : List ℕ) (cyclic : Bool) → IsOrder step count finished places cyclic

@@ -11,8 +11,8 @@ use Rattle.symbol_base.proofs.Walks.{walk-more}
 use Rattle.min_cover.specs.declared.finishing.Mark.{Mark}
 use Rattle.min_cover.specs.declared.finishing.Mark.TheVariants.{New, OnPath, Finished}
 use Rattle.min_cover.specs.declared.finishing.Visit.{Visit}
-use Rattle.min_cover.specs.inside.Pairs.{Leads, IsOnCycle, HasCycle}
-use Rattle.min_cover.specs.inside.Finishing.{SearchData, joined, no_visit, mark_at, pair_at, next_at, number_at, visit_of, visited, closed, reached_by, ended, IsSearch, LinksTo, KeepsKnown, is_new, weight, IsOrder}
+use Rattle.min_cover.specs.inside.Pairs.{Leads, HasCycle}
+use Rattle.min_cover.specs.inside.Finishing.{SearchData, joined, no_visit, mark_at, pair_at, next_at, number_at, visit_of, visited, closed, reached_by, ended, IsSearch, LinksTo, is_new, weight, IsOrder}
 
 abbrev is_on_path : Mark → Bool
 is_on_path New = false

@@ -6,10 +6,10 @@ ghost use Rattle.min_cover.specs.inside.Pairs.{pair_count, pair_step, IsOnCycle,
 ghost use Rattle.min_cover.specs.inside.Finishing.{IsOrder};
 ghost use Rattle.min_cover.specs.inside.Order.{AreSpanned, IsLeastBack};
 
-use crate::fault::TwoStates;
 use crate::finishing::Order;
 use crate::longest::above_followers;
 use crate::pairs::Pairs;
+use label_graphs::TwoStates;
 use least_walks::least_walk;
 use std::alloc::Global;
 use symbol_base::{ByteList, CoverName, Name, NoMemory};

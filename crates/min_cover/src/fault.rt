@@ -2,8 +2,9 @@ ghost use Rattle.std.specs.Prelude.{◌≡◌};
 ghost use Rattle.min_cover.specs.declared.fault.CoverFault.TheVariants as faults;
 ghost use Rattle.min_cover.specs.declared.fault.MemoryFault.TheVariants as memory_faults;
 
+use label_graphs::TwoStates;
 use std::alloc::{AllocError, AllocFailed};
-use symbol_base::{ByteList, CoverName, NoMemory};
+use symbol_base::NoMemory;
 
 /// Why the cover of a constraint isn't given.
 #[derive(Clone, Copy, Debug, PartialEq, Eq)]
@@ -38,14 +39,6 @@ impl<T: Drop> From<AllocFailed<T>> for CoverFault {
     fn from(_error: AllocFailed<T>) -> CoverFault {
         CoverFault::NoMemory
     }
-}
-
-/// Two different states that read one word, of a symbol at least, back to themselves.
-#[derive(Debug, PartialEq, Eq, Drop)]
-pub struct TwoStates {
-    pub first: CoverName,
-    pub second: CoverName,
-    pub word: ByteList,
 }
 
 /// Why the memory of a cover isn't given.

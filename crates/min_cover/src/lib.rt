@@ -30,7 +30,8 @@ mod rows;
 mod search;
 
 pub use cover_memory::memory;
-pub use fault::{CoverFault, MemoryFault, TwoStates};
+pub use fault::{CoverFault, MemoryFault};
+pub use label_graphs::TwoStates;
 pub use minimal::cover;
 
 /// A constraint has one cover.
@@ -62,8 +63,3 @@ pub fn a_graph_has_one_memory()
         → IsLeastReadBack (length rows) (HasEdge rows) x y other
         → (u ≡ x) × (v ≡ y) × (word ≡ other) }
 {}
-
-#[cfg(test)]
-mod memory_tests;
-#[cfg(test)]
-mod tests;

@@ -118,6 +118,3 @@ pub fn near_is_single()
 pub fn locator_finds_errors()
     ensures { LocatorFindsErrors }
 {}
-
-#[cfg(test)]
-mod tests;

@@ -17,6 +17,3 @@ pub use in_memory::{MemoryShelf, MemorySink};
 pub use on_host::{HostShelf, HostSink};
 pub use outside::{Failed, Shelf, TextSink, Unread};
 pub use whole_files::{ReadAllFault, put_all, read_all};
-
-#[cfg(test)]
-mod tests;

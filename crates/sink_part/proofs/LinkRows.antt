@@ -1,34 +1,19 @@
 -- The rows of the links: what is marked for a state, the edges to what is marked, and the graph of all rows.
 use Rattle.std.proofs.Common.{◌≡◌, ℕ, ◌+◌, ◌<◌, ◌≤◌, List, [], ◌∷◌, ◌++◌, length, length-append, get_or, set, take, map, Bool, true, false, inl, inr, ap, sym, ◌∙◌, subst, arith}
 use Rattle.std.specs.Prelude.{Contains}
-use Rattle.std.specs.List.{range_with_len}
-use Rattle.std.proofs.lemmas.Bool.{cases_lt, cases_eq, false≢true}
-use Rattle.std.proofs.lemmas.List.{get_or_append_left, get_or_push, get_or_past, get_or_default, get_or-set_same, get_or-set_other, get_or-map, length-set, length-map, map-append, take_more}
+use Rattle.std.proofs.lemmas.Bool.{cases_lt, cases_eq}
+use Rattle.std.proofs.lemmas.List.{get_or_append_left, get_or_push, get_or_default, get_or-set_same, get_or-set_other, get_or-map, length-set, length-map, map-append, take_more}
 use Rattle.std.proofs.lemmas.List.Elements.{Contains-append_left, Contains-push, Contains-push_cases, Contains-get_or}
 use Rattle.symbol_base.specs.Ascending.{IsAscending}
-use Rattle.symbol_base.proofs.AscendingNumbers.{Contains-range, filter_keeps, filter_kept, filter_ascends}
+use Rattle.symbol_base.proofs.AscendingNumbers.{filter_ascends}
 use Rattle.label_graphs.specs.declared.graph.Edge.{Edge}
-use Rattle.label_graphs.specs.Graph.{EdgeData, IsEdgeBefore, HasEdge, IsGraph}
+use Rattle.label_graphs.specs.Graph.{EdgeData, IsEdgeBefore, IsGraph}
 use Rattle.label_graphs.specs.Kept.{marked_states}
 use Rattle.label_graphs.specs.Views.{edge_data}
 use Rattle.label_graphs.specs.inside.Numbers.{is_marked}
-use Rattle.label_graphs.proofs.Renumbered.{target_of}
+use Rattle.label_graphs.proofs.Marks.{marked_listed, listed_marked}
+use Rattle.label_graphs.proofs.Renumbered.{source_of, target_of}
 use Rattle.sink_part.specs.inside.Links.{Marked, AreMarkedTargets, AreMarkedBy, link_to, AreLinks, IsLinkRow, AreLinkRows}
-
--- a marked state is listed, and a listed one is marked
-pub marked_inside : (marks : List Bool) (state : ℕ) → Marked marks state → state < length marks
-marked_inside marks state marked = elim (cases_lt state (length marks)) [
-  | inl inside ↦ inside
-  | inr past ↦ absurd (false≢true (sym (get_or_past marks state false past) ∙ marked))
-]
-
-pub marked_listed : (marks : List Bool) (state : ℕ) → Marked marks state → Contains (marked_states marks) state
-marked_listed marks state marked =
-    filter_kept (is_marked marks) (range_with_len 0 (length marks)) state
-    ((Contains-range 0 (length marks) state).1 (omega arith, (let inside = marked_inside marks state marked in omega (arith, inside)))) marked
-
-pub listed_marked : (marks : List Bool) (state : ℕ) → Contains (marked_states marks) state → Marked marks state
-listed_marked marks state listed = (filter_keeps (is_marked marks) (range_with_len 0 (length marks)) state listed).1
 
 -- an edge to a state of positive weight marks it
 pub marks_set : (row : List EdgeData) (e : EdgeData) (weights : List ℕ) (n : ℕ) (marks : List Bool) → AreMarkedBy row weights n marks
@@ -124,15 +109,6 @@ link_rows_more rows weights links more n row known new joined =
             (subst (λ k. IsLinkRow rows weights k row) last new))
       ];
     })
-
--- a state with an edge is one of the graph
-pub source_of : (rows : List (List EdgeData)) (from block to : ℕ) → HasEdge rows from block to → from < length rows
-source_of rows from block to edge = elim (cases_lt from (length rows)) [
-  | inl inside ↦ inside
-  | inr past ↦ (
-      let none : length (get_or rows from []) ≡ 0 = ap (λ (es : List EdgeData). length es) (get_or_past rows from [] past) in
-      absurd (omega (arith, edge.1, none)))
-]
 
 -- all rows are a graph
 pub links_are_graph : (rows : List (List EdgeData)) (weights : List ℕ) (links : List (List EdgeData)) (n : ℕ) → IsGraph rows → AreLinkRows rows weights links n

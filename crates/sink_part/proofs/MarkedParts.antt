@@ -12,7 +12,8 @@ use Rattle.label_graphs.specs.Vector.{MeetsInequality, target_sum}
 use Rattle.label_graphs.proofs.KeptSums.{kept_sums}
 use Rattle.label_graphs.proofs.Renumbered.{target_of}
 use Rattle.sink_part.specs.inside.Parts.{IsMarkedPart}
-use Rattle.sink_part.proofs.LinkRows.{listed_marked, source_of}
+use Rattle.label_graphs.proofs.Marks.{listed_marked}
+use Rattle.label_graphs.proofs.Renumbered.{source_of}
 
 pub part_edges : (rows : List (List EdgeData)) (weights : List ℕ) (marks : List Bool) (part : List (List EdgeData)) (part_weights parents : List ℕ)
     → IsMarkedPart rows weights marks part part_weights parents → AreEdgesAmong rows parents part

@@ -18,7 +18,7 @@ use Rattle.label_graphs.specs.inside.Numbers.{is_marked}
 use Rattle.label_graphs.proofs.OneSink.{stays_in}
 use Rattle.label_graphs.proofs.Renumbered.{target_of}
 use Rattle.sink_part.specs.inside.Leads.{IsTable, AreLeads, IsEnd, IsLightest, marks_of, leads, total_from}
-use Rattle.sink_part.proofs.LinkRows.{marked_inside, marked_listed, listed_marked}
+use Rattle.label_graphs.proofs.Marks.{marked_inside, marked_listed, listed_marked}
 
 -- walks through states of positive weight end in such a state
 led_positive : (rows : List (List EdgeData)) (weights : List ℕ) (blocks : List ℕ) (from to : ℕ) → IsWalk (IsPositiveEdge rows weights) from blocks to

@@ -7,8 +7,6 @@ mod linking;
 mod parts;
 mod spreading;
 
-pub use parts::{SinkGraph, sink};
+pub use label_graphs::SinkGraph;
+pub use parts::sink;
 pub use spreading::spread;
-
-#[cfg(test)]
-mod tests;

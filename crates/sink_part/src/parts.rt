@@ -9,21 +9,9 @@ ghost use Rattle.sink_part.specs.inside.Parts.{IsMarkedPart};
 
 use crate::choice::lightest;
 use crate::leading::all_leads;
-use label_graphs::{Graph, Refinement, Weights, keep, marked_names};
+use label_graphs::{Graph, Refinement, SinkGraph, Weights, keep, marked_names};
 use std::alloc::Global;
 use symbol_base::{CoverName, NoMemory, SplitName};
-
-/// A sink of a graph, as a graph of its own.
-#[derive(Debug, Drop)]
-pub struct SinkGraph {
-    /// The states of the sink in ascending order, with new numbers from 0, and the edges among
-    /// them.
-    pub graph: Graph<SplitName>,
-    /// The weights of these states.
-    pub weights: Weights,
-    /// For each of them the state of the whole graph that it is.
-    pub parents: Refinement<SplitName, CoverName>,
-}
 
 /// The irreducible sink that a design begins with (Marcus, Roth, Siegel, chapter 2: irreducible
 /// sinks; chapter 5: their use in state splitting).

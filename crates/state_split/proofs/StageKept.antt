@@ -9,7 +9,7 @@ use Rattle.label_graphs.specs.Graph.{EdgeData, IsGraph}
 use Rattle.label_graphs.specs.Kept.{IsKept, marked_states}
 use Rattle.label_graphs.specs.Refinement.{parents_of}
 use Rattle.label_graphs.specs.inside.Numbers.{is_marked}
-use Rattle.sink_part.proofs.LinkRows.{marked_inside, marked_listed, listed_marked}
+use Rattle.label_graphs.proofs.Marks.{marked_inside, marked_listed, listed_marked}
 use Rattle.split_spec.specs.Weighted.{WeightedData}
 use Rattle.split_spec.specs.Round.{SplitData}
 use Rattle.split_spec.specs.Chain.{IsChain, IsHeaviest, NeedsRound, RoundsLead}

@@ -12,6 +12,3 @@ mod stage;
 
 pub use chain::{Chain, split_all};
 pub use round::{Round, Split};
-
-#[cfg(test)]
-mod tests;

@@ -11,8 +11,7 @@ use crate::order::greatest;
 use crate::parts::{parents_of_parts, second_parts, weights_of_parts};
 use crate::round::Round;
 use crate::rows::graph_of_parts;
-use label_graphs::{Edge, Graph, Refinement, Weights, compose};
-use sink_part::SinkGraph;
+use label_graphs::{Edge, Graph, Refinement, SinkGraph, Weights, compose};
 use std::alloc::Global;
 use symbol_base::{Name, NoMemory, SplitName};
 

@@ -4,3 +4,4 @@ pub mod BlockLemmas
 pub mod DecimalLemmas
 pub mod Walks
 pub mod WordOrder
+mod Examples

@@ -16,6 +16,3 @@ pub use lists::{ByteList, WordList};
 pub use memory::NoMemory;
 pub use names::{CodeName, CoverName, Name, SplitName};
 pub use words::{comes_before, words_are_ordered};
-
-#[cfg(test)]
-mod tests;

@@ -5,3 +5,4 @@ pub mod LineSteps
 pub mod Numbers
 pub mod Readers
 pub mod Steps
+mod Examples

@@ -105,6 +105,3 @@ pub fn blocks_are_read()
         (λ value. map (λ symbol. 48 + symbol) (symbols_of alphabet q value)) (λ value.
         value < alphabet ^ q) }
 {}
-
-#[cfg(test)]
-mod tests;

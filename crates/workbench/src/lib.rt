@@ -10,8 +10,6 @@ mod decode;
 mod encode;
 mod explain;
 mod split_text;
-#[cfg(test)]
-mod tests;
 mod text_file;
 mod top;
 

@@ -1,5 +1,5 @@
 -- What a depth-first search of a machine on numbers keeps.
-use Rattle.std.specs.Prelude.{◌≡◌, ◌≢◌, ℕ, ◌+◌, ◌*◌, ◌-◌, ◌<◌, ◌≤◌, ◌⊎◌, Bool, true, false, if◌then◌else◌, List, [], ◌∷◌, ◌++◌, length, slice_index_or, set, Option}
+use Rattle.std.specs.Prelude.{◌≡◌, ◌≢◌, ℕ, ◌+◌, ◌*◌, ◌-◌, ◌<◌, ◌≤◌, ◌⊎◌, Bool, true, false, List, [], ◌∷◌, ◌++◌, length, slice_index_or, set, Option}
 use Rattle.std.specs.List.{count_by, sum_by}
 use Rattle.min_cover.specs.declared.finishing.Mark.{Mark}
 use Rattle.min_cover.specs.declared.finishing.Mark.TheVariants.{New, OnPath, Finished}

@@ -1,5 +1,5 @@
 -- What an order of pairs in which arcs fall, but for those of cycles, tells of walks.
-use Rattle.std.specs.Prelude.{◌≡◌, ℕ, ◌+◌, ◌<◌, ◌≤◌, ◌⊎◌, Bool, true, false, List, length, slice_index_or, Option}
+use Rattle.std.specs.Prelude.{◌≡◌, ℕ, ◌+◌, ◌<◌, ◌≤◌, ◌⊎◌, Bool, false, List, length, slice_index_or, Option}
 use Rattle.symbol_base.specs.Walk.{IsWalk}
 use Rattle.symbol_base.specs.Word.{IsBefore}
 use Rattle.min_cover.specs.inside.Pairs.{Leads, HasWalk}

@@ -1,6 +1,6 @@
-use Rattle.std.proofs.Common.{◌≡◌, ℕ, ◌+◌, ◌^◌, ◌<◌, ◌++◌, ◌∷◌, [], Bool, List, length, length-append, get_or, ap, sym, ◌∙◌, subst, arith, ltb-false, nat_lt}
+use Rattle.std.proofs.Common.{◌≡◌, ℕ, ◌^◌, ◌<◌, ◌∷◌, [], Bool, List, length, length-append, ap, sym, ◌∙◌, subst, arith, ltb-false, nat_lt}
 use Rattle.std.proofs.lemmas.List.{get_or_default}
-use Rattle.min_cover.specs.inside.Pairs.{pair_count, pair_step, Leads}
+use Rattle.min_cover.specs.inside.Pairs.{pair_count, pair_step}
 use Rattle.min_cover.specs.inside.Finishing.{number_at}
 use Rattle.min_cover.specs.inside.Order.{IsAbove, AreSpanned}
 use Rattle.min_cover.proofs.PairWalks.{places_small, max_is, spanned_more}

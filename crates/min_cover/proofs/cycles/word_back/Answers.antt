@@ -1,9 +1,9 @@
-use Rattle.std.proofs.Common.{◌≡◌, ℕ, ◌<◌, ◌≤◌, List, ◌∷◌, length, get_or, set, replicate, Bool, true, false, Some, None, ap, sym, ◌∙◌, subst, arith}
+use Rattle.std.proofs.Common.{◌≡◌, ℕ, ◌<◌, List, ◌∷◌, length, get_or, set, replicate, Bool, true, false, ap, sym, ◌∙◌, subst, arith}
 use Rattle.std.specs.Prelude.{IfSome, IfNone}
 use Rattle.std.proofs.lemmas.List.{get_or_default}
 use Rattle.symbol_base.specs.Walk.{IsWalk}
 use Rattle.least_walks.specs.LeastWalk.{IsLeastWalk, IsGoal}
-use Rattle.min_cover.specs.inside.Pairs.{pair_count, pair_step, pair_graph, Leads, IsOnCycle}
+use Rattle.min_cover.specs.inside.Pairs.{pair_count, pair_step, pair_graph, Leads}
 use Rattle.min_cover.specs.inside.Finishing.{number_at}
 use Rattle.min_cover.specs.inside.Order.{NoneSpans, IsLeastBack}
 use Rattle.min_cover.proofs.PairLaws.{step_symbol, step_inside}

@@ -1,5 +1,4 @@
-use Rattle.std.proofs.Common.{◌≡◌, ℕ, ◌+◌, get_or, inl, inr, refl, sym, ◌∙◌, arith}
-use Rattle.std.proofs.lemmas.List.{get_or_default}
+use Rattle.std.proofs.Common.{◌+◌, inl, inr, refl, sym, ◌∙◌, arith}
 use Rattle.min_cover.specs.inside.Pairs.{pair_step}
 use Rattle.min_cover.specs.inside.Finishing.{number_at}
 use Rattle.min_cover.proofs.PairWalks.{above_more, above_same, max_is}

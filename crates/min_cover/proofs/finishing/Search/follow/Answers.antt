@@ -1,7 +1,7 @@
-use Rattle.std.proofs.Common.{◌≡◌, ℕ, ◌+◌, ◌<◌, ap, sym, ◌∙◌, subst, arith}
+use Rattle.std.proofs.Common.{◌≡◌, ◌<◌, sym, ◌∙◌, subst, arith}
 use Rattle.std.proofs.lemmas.Result.{IfOk-weaker}
-use Rattle.min_cover.specs.inside.Pairs.{pair_count, pair_step, Leads}
-use Rattle.min_cover.specs.inside.Finishing.{SearchData, search_data, joined, mark_at, reached_by, ended, IsSearch, weight}
+use Rattle.min_cover.specs.inside.Pairs.{pair_count, pair_step}
+use Rattle.min_cover.specs.inside.Finishing.{search_data, joined, ended, IsSearch, weight}
 use Rattle.min_cover.proofs.Searched.{end_within, follow_end, follow_some, follow_none}
 use Rattle.min_cover.proofs.finishing.Search.follow.Goals as goal
 

@@ -1,4 +1,4 @@
-use Rattle.std.proofs.Common.{◌≡◌, ◌+◌, ◌*◌, ◌<◌, List, length, get_or, map, [], ap, sym, ◌∙◌, subst}
+use Rattle.std.proofs.Common.{◌≡◌, ◌+◌, ◌*◌, ◌<◌, List, length, ap, sym, ◌∙◌, subst}
 use Rattle.label_graphs.specs.Graph.{EdgeData}
 use Rattle.label_graphs.specs.Cover.{CoverData}
 use Rattle.min_cover.specs.inside.Pairs.{pair_count}

@@ -1,4 +1,4 @@
-use Rattle.std.proofs.Common.{◌≡◌, ◌<◌, List, ap, sym, ◌∙◌, subst}
+use Rattle.std.proofs.Common.{◌≡◌, List, ap, sym, ◌∙◌, subst}
 use Rattle.label_graphs.specs.Graph.{EdgeData}
 use Rattle.label_graphs.specs.Cover.{CoverData}
 use Rattle.min_cover.specs.inside.Pairs.{Leads, pair_step}
