@@ -11,7 +11,6 @@ mod tables;
 pub use linear::{null_vector, solve};
 use tables::{alpha_power, logarithm};
 
-
 /// An element of the field: a polynomial over the two-element field of degree below 8, in a byte
 /// whose bit i is the coefficient of x^i.
 #[derive(Clone, Copy, PartialEq, Eq, Debug)]
