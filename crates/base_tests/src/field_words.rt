@@ -1,6 +1,6 @@
 //! Elements of the field and Reed-Solomon words whose values were found by hand or by other programs.
 
-ghost use Rattle.std.specs.Prelude.{◌≡◌, ◌<◌, ◌≤◌, ◌*◌, length};
+ghost use Rattle.std.specs.Prelude.{◌≡◌, ◌<◌, ◌*◌, length};
 
 use gf256::{Gf, null_vector, solve};
 use rs_code::{Coder, TooFar, correct, parity};

@@ -1,6 +1,6 @@
 -- A piece more of a text, and its end.
 use Rattle.std.proofs.Common.{◌≡◌, ℕ, ◌+◌, ◌-◌, ◌*◌, ◌/◌, ◌%◌, ◌<◌, ◌≤◌, ◌^◌, Option, Some, None, List, [], ◌∷◌, ◌++◌, length, take, drop, get_or, refl, sym, ap, ap₂, ◌∙◌, subst, arith}
-use Rattle.std.specs.Prelude.{All, Ok, Err, not}
+use Rattle.std.specs.Prelude.{All, Ok, Err, not, min}
 use Rattle.std.proofs.Math.Seq.{take-append-add, drop-append_seam}
 use Rattle.std.proofs.Math.Nat.{div-add-mod, mul-add-div, mul-le-mul_left, div-le_self, mul-suc, div-eq_of_lt}
 use Rattle.std.proofs.lemmas.List.{length-append, get_or-append-add}
@@ -195,9 +195,9 @@ pub ends_at_bad : (c : CodeData) (decoder : TextDecoder) (text : List ℕ) (at :
 ends_at_bad c decoder text at fault come =
     refused_at_end (EndFault.BadSymbol at) (bad_symbol at (subst (λ (f : Option ℕ). HasReadTo c decoder text f) fault come.read))
 
--- the bits of the words that have come are few
-pub few_bits : (count q lead p : ℕ) → count ≤ 2 ^ 40 → p ≤ 8 → (count / q - lead) * p ≤ 2 ^ 43
-few_bits count q lead p few small =
+-- the bits of the words that have come are few, so their number is exact
+pub bits_are : (count q lead p bits : ℕ) → count ≤ 2 ^ 40 → p ≤ 8 → bits ≡ min ((count / q - lead) * p) (2 ^ 64 - 1) → bits ≡ (count / q - lead) * p
+bits_are count q lead p bits few small is =
     let words = count / q - lead in
-    let bits : words * p ≤ words * 8 = mul-le-mul_left words small in
-    omega (arith, bits, div-le_self count q, few)
+    let most : words * p ≤ words * 8 = mul-le-mul_left words small in
+    omega (arith, most, div-le_self count q, few, is)

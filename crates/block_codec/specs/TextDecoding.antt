@@ -1,7 +1,7 @@
 -- What has come to a decoder of texts, and what it answers.
 use Rattle.std.specs.Prelude.{◌≡◌, ℕ, ◌+◌, ◌^◌, ◌≤◌, Option, Some, None, List, ◌++◌, length, Result, Ok, Err}
 use Rattle.code_spec.specs.declared.fault.EndFault.{EndFault}
-use Rattle.code_spec.specs.Code.{CodeData, IsCode}
+use Rattle.code_spec.specs.Code.{CodeData}
 use Rattle.code_spec.specs.PlainReading.{IsChannelText, IsBadAt, ReadsText}
 use Rattle.block_codec.specs.declared.fault.TextFault.{TextFault}
 use Rattle.block_codec.specs.declared.fault.TextFault.TheVariants.{BadSymbol, NoMemory}
@@ -16,12 +16,6 @@ pub record IsTextDecoderFor (c : CodeData) (decoder : TextDecoder) : Type 0 wher
   pub lead : decoder.lead ≡ c.past + c.ahead
   pub few : decoder.reader.count ≤ decoder.taken
   pub small : decoder.taken ≤ 2 ^ 40
-
--- a decoder that was made for some code
-pub record IsMade (decoder : TextDecoder) : Type 0 where
-  pub code : CodeData
-  pub is : IsCode code
-  pub made : IsTextDecoderFor code decoder
 
 -- how many bytes have come
 abbrev pub bytes_come : TextDecoder → ℕ

@@ -1,6 +1,6 @@
 //! Digits byte by byte, by a table of bytes.
 
-ghost use Rattle.std.specs.Prelude.{◌≡◌, ◌+◌, ◌*◌, ◌≤◌, [], ◌∷◌, length, IfOk};
+ghost use Rattle.std.specs.Prelude.{◌+◌, ◌*◌, ◌≤◌, length, IfOk};
 ghost use Rattle.std.specs.Bool.{OnTrue};
 ghost use Rattle.code_spec.specs.Code.{IsState};
 ghost use Rattle.code_spec.specs.PlainText.{word_count, file_words};

@@ -1,4 +1,4 @@
-ghost use Rattle.std.specs.Prelude.{◌≡◌, ℕ, ◌<◌, ◌≤◌, ◌^◌, ◌↔◌, length};
+ghost use Rattle.std.specs.Prelude.{◌<◌, ◌^◌, length};
 ghost use Rattle.code_spec.specs.Code.{IsCode};
 ghost use Rattle.block_codec.specs.inside.Sets.{HasStates, HasTargets, IsForward, IsAnyWordInto, IsBackward, AreReached, AreReadable};
 

@@ -1,8 +1,8 @@
-ghost use Rattle.std.specs.Prelude.{◌≡◌, ℕ, ◌+◌, ◌^◌, ◌≤◌, List, [], ◌++◌, length, drop, Result, IfOk, OnErr, OnOk};
+ghost use Rattle.std.specs.Prelude.{◌≡◌, ℕ, ◌+◌, ◌%◌, ◌^◌, ◌<◌, ◌≤◌, ◌↔◌, List, [], ◌++◌, length, drop, Result, IfOk, IsTrue, OnErr, OnOk};
 ghost use Rattle.code_spec.specs.Code.{CodeData, IsCode};
 ghost use Rattle.code_spec.specs.PlainReading.{IsPlainFront};
 ghost use Rattle.block_codec.specs.inside.Readers.{IsFrontOf};
-ghost use Rattle.block_codec.specs.TextDecoding.{IsTextDecoderFor, IsMade, bytes_come, TextHasCome, TakesText, EndsText};
+ghost use Rattle.block_codec.specs.TextDecoding.{IsTextDecoderFor, bytes_come, TextHasCome, TakesText, EndsText};
 
 use crate::fault::TextFault;
 use crate::reader::Reader;
@@ -22,11 +22,20 @@ pub struct TextDecoder {
     fault: Option<u64>,
 }
 
+/// Whether so many symbols fill blocks of `q` symbols; none does where `q` is 0.
+fn are_whole_blocks(symbols: u64, q: u64) -> bool
+    ensures { IsTrue result ↔ (0 < q) × (symbols % q ≡ 0) }
+{
+    if q == 0 {
+        return false;
+    }
+    symbols % q == 0
+}
+
 impl TextDecoder {
     /// A decoder for the code, to which nothing has come.
     pub fn new(alloc: Global, code: &CheckedCode) -> Result<TextDecoder, NoMemory>
         ensures code { IfOk result (IsTextDecoderFor code.now) }
-        ensures made { IfOk result IsMade }
         ensures come { IfOk result (λ decoder. TextHasCome code.now decoder []) }
         ensures none { IfOk result (λ decoder. bytes_come decoder ≡ 0) }
     {
@@ -54,7 +63,6 @@ impl TextDecoder {
         requires code { IsTextDecoderFor code.now self.old }
         requires small { bytes_come self.old + length piece.now ≤ 2 ^ 40 }
         ensures code { IsTextDecoderFor code.now self.new }
-        ensures made { IsMade self.old → IsMade self.new }
         ensures come { (text : List ℕ) → TextHasCome code.now self.old text
             → TakesText code.now self.old self.new text piece.now result }
         ensures bytes { OnOk result
@@ -89,7 +97,6 @@ impl TextDecoder {
 
     /// How many bytes the file of the text has that has come, or why it is the text of no file.
     pub fn end(&self) -> Result<u64, EndFault>
-        requires made { IsMade self.now }
         ensures end { (c : CodeData) (text : List ℕ) → IsCode c → IsTextDecoderFor c self.now
             → TextHasCome c self.now text
             → EndsText c text result }
@@ -99,7 +106,7 @@ impl TextDecoder {
         }
         let symbols = self.reader.count();
         let q = u64::from(self.q);
-        if symbols % q != 0 {
+        if !are_whole_blocks(symbols, q) {
             return Err(EndFault::PartBlock(symbols));
         }
         let blocks = symbols / q;
@@ -109,9 +116,10 @@ impl TextDecoder {
         }
         let words = blocks - lead;
         let p = u64::from(self.p);
-        if words * p % 8 >= p {
+        let bits = words.saturating_mul(p);
+        if bits % 8 >= p {
             return Err(EndFault::PartByte(words));
         }
-        Ok(words * p / 8)
+        Ok(bits / 8)
     }
 }

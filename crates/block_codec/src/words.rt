@@ -1,6 +1,6 @@
 //! Digits word by word, by a table of data words.
 
-ghost use Rattle.std.specs.Prelude.{◌≡◌, ◌+◌, ◌-◌, ◌*◌, ◌/◌, ◌%◌, ◌^◌, ◌<◌, ◌≤◌, [], ◌∷◌, length, IfOk};
+ghost use Rattle.std.specs.Prelude.{◌≡◌, ◌+◌, ◌-◌, ◌*◌, ◌/◌, ◌%◌, ◌^◌, ◌<◌, ◌≤◌, length, IfOk};
 ghost use Rattle.symbol_base.specs.Block.{number_of};
 ghost use Rattle.code_spec.specs.Code.{IsCode, IsState, IsDataWord};
 ghost use Rattle.code_spec.specs.PlainText.{word_count, file_words};

@@ -8,6 +8,7 @@ pub mod OutputParts
 pub mod PlainTextLaws
 pub mod ReadBack
 pub mod ReadingLaws
+pub mod SomeReading
 pub mod StepLaws
 pub mod WalkLaws
 pub mod WitnessLaws

@@ -151,6 +151,12 @@ pub fn text_has_one_reading()
         → IsPlainFront c text one → IsPlainFront c text other → one ≡ other }
 {}
 
+/// Each text gives a file or is refused, under each code.
+pub fn text_has_a_reading()
+    ensures { (c : CodeData) (text : List ℕ) → IsCode c
+        → (answer : Result (List ℕ) EndFault) × ReadsText c text answer }
+{}
+
 /// The plain text of a file is read back to the file, wherever line feeds, carriage returns and
 /// spaces stand in it.
 pub fn plain_text_is_read_back()

@@ -1,6 +1,6 @@
-ghost use Rattle.std.specs.Prelude.{◌≡◌, ◌+◌, ◌-◌, ◌^◌, ◌≤◌, ◌<◌, IfSome, IfOk};
+ghost use Rattle.std.specs.Prelude.{◌≡◌, ◌+◌, ◌-◌, ◌^◌, ◌≤◌, ◌<◌, IfSome};
 ghost use Rattle.text_reading.specs.Reading.{Gives};
-ghost use Rattle.code_tables.specs.inside.Reading.{graph_at, edge_follows, edge_fields_at, edge_from, edge_at, edges_at};
+ghost use Rattle.code_tables.specs.inside.Reading.{graph_at, edge_follows, edge_fields_at, edge_at, edges_at};
 ghost use Rattle.code_tables.specs.inside.ReadLines.{GivesLines};
 
 use crate::fault::CodeTextFault;

@@ -1,4 +1,4 @@
-ghost use Rattle.std.specs.Prelude.{◌≡◌, ◌≤◌, IfSome, IfOk};
+ghost use Rattle.std.specs.Prelude.{◌≤◌, IfSome, IfOk};
 ghost use Rattle.text_reading.specs.Reading.{Gives};
 ghost use Rattle.code_tables.specs.inside.Reading.{limit_at, d_at, k_at, forbid_at, head_at};
 ghost use Rattle.code_tables.specs.inside.ReadLines.{GivesLines};

@@ -1,4 +1,3 @@
-ghost use Rattle.std.specs.Prelude.{◌≡◌};
 ghost use Rattle.code_tables.specs.inside.Reading.{code_at};
 ghost use Rattle.code_tables.specs.ReadCode.{ReadsCode};
 ghost use Rattle.code_tables.specs.inside.ReadLines.{GivesLines};

@@ -1,4 +1,4 @@
-ghost use Rattle.std.specs.Prelude.{◌≡◌, ℕ, ◌+◌, ◌*◌, ◌-◌, ◌^◌, ◌<◌, ◌≤◌, List, length, map, IfSome, IfOk};
+ghost use Rattle.std.specs.Prelude.{◌≡◌, ◌+◌, ◌-◌, ◌^◌, ◌<◌, ◌≤◌, map, IfSome, IfOk};
 ghost use Rattle.text_reading.specs.Reading.{Gives};
 ghost use Rattle.code_tables.specs.inside.Reading.{rate_at, window_at, states_at, sizes_at, code_row_at, state_at, table_at};
 ghost use Rattle.code_tables.specs.inside.ReadLines.{GivesLines, sizes_of, AreReadable, row_of_numbers};

@@ -1,4 +1,4 @@
-ghost use Rattle.std.specs.Prelude.{◌≡◌, ℕ, ◌+◌, ◌<◌, ◌≤◌, List, [], ◌∷◌, ◌++◌, All, length, take, map, string_bytes, IfOk, OnOk, codes};
+ghost use Rattle.std.specs.Prelude.{◌≡◌, ℕ, ◌+◌, ◌<◌, ◌≤◌, [], ◌∷◌, ◌++◌, length, take, map, string_bytes, IfOk, OnOk, OnErr, codes};
 ghost use Rattle.std.specs.Fmt.{decimal};
 ghost use Rattle.symbol_base.specs.Block.{symbols_of};
 ghost use Rattle.code_text_spec.specs.CodeText.{spaced, digits, row_line, state_lines, table_lines, text_of, code_text};
@@ -83,14 +83,18 @@ fn write_row(
     Ok(())
 }
 
-/// Writes one digit for each of the `q` symbols of a block.
+/// Writes one digit for each of the `q` symbols of a block behind a text. Where memory is wanted,
+/// the first of them may stand there.
 pub fn write_block(block: Block, q: u32, alphabet: u8, text: &mut String) -> Result<(), NoMemory>
     requires short { q ≤ 20 }
     requires least { 2 ≤ alphabet }
     requires most { alphabet ≤ 4 }
-    ensures { OnOk result
+    ensures digits { OnOk result
         (string_bytes text.new
         ≡ string_bytes text.old ++ digits (symbols_of alphabet q block.value)) }
+    ensures front { OnErr result ((n : ℕ)
+        × (string_bytes text.new
+        ≡ string_bytes text.old ++ digits (take n (symbols_of alphabet q block.value)))) }
 {
     for at in 0..q {
         write_digit(block.symbol(at, q, alphabet), text)?;

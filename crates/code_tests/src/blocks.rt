@@ -1,6 +1,5 @@
 //! Blocks that are written and read one by one.
 
-ghost use Rattle.std.specs.Prelude.{◌≡◌};
 ghost use Rattle.code_spec.specs.Code.{IsState};
 ghost use Rattle.block_codec.specs.Decoding.{IsDecoderFor};
 

@@ -1,7 +1,7 @@
 //! A text that is decoded in pieces.
 
 ghost use Rattle.std.specs.Prelude.{◌≡◌, ◌≤◌, ◌+◌, ◌^◌, length};
-ghost use Rattle.block_codec.specs.TextDecoding.{IsTextDecoderFor, IsMade, bytes_come};
+ghost use Rattle.block_codec.specs.TextDecoding.{IsTextDecoderFor, bytes_come};
 
 use crate::blocks::{NO_TWO_ZEROS, checked};
 use block_codec::TextDecoder;
@@ -19,10 +19,8 @@ fn take(
     out: &mut Vec<u8>,
 )
     requires code { IsTextDecoderFor code.now decoder.old }
-    requires made { IsMade decoder.old }
     requires few { bytes_come decoder.old + length piece.now ≤ 2 ^ 40 }
     ensures code { IsTextDecoderFor code.now decoder.new }
-    ensures made { IsMade decoder.new }
     ensures come { bytes_come decoder.new ≡ bytes_come decoder.old + length piece.now }
 {
     let fed = decoder.feed(code, piece, out);

@@ -5,11 +5,12 @@ use Rattle.shelf_io.specs.Faults.{Counted, Rose}
 use Rattle.shelf_io.specs.Shelf.{Files, with_file}
 use Rattle.command_steps.specs.declared.status.Status.{Status}
 use Rattle.command_steps.specs.declared.status.Status.TheVariants.{Done, Usage, ShelfFault, SinkFault, NoMemory}
-use Rattle.command_steps.specs.StatusLine.{line_of_status}
+use Rattle.shelf_io.specs.Reads.{Telling}
+use Rattle.command_steps.specs.Inputs.{Input, AreRead, Stops, ReadsFirst, ReadsBefore}
 use Rattle.command_steps.specs.Step.{Step, IsSingle}
 use Rattle.command_steps.specs.Promise.{Seen, IsRefusal, Follows, gave, refused, fault, memory}
 use Rattle.command_steps.specs.Answer.{Answer, with_output, IsKept, IsBroken, Delivers, delivered, lost, broken, Shelved, answered, stopped, failed, starved}
-use Rattle.command_steps.specs.Printing.{Said, Says, SaysFront, SaysLine}
+use Rattle.command_steps.specs.Printing.{Said}
 use Rattle.command_steps.specs.Ends.{Ends, printed, unprinted, told, status_in, Allows, IsExact, IsAnswered, Completes, CountsShelf, CountsSink}
 
 -- ---- from the functions to the end of a command
@@ -29,24 +30,13 @@ output_broken name bytes old new front counted = record { front = front; counted
 
 pub ruleset outputs = (output_none, output_kept, output_broken)
 
-pub shelved_on : (row : Step Answer) (name : List ℕ) (old middle new : Seen) (answer : Answer) (result : Result (List ℕ) Status) → Follows (λ (a : Answer). a) row old middle (Ok answer) → Delivers answer name middle new result → Shelved row name old new result
-shelved_on row name old middle new answer result (gave other at same) rest = answered answer at result (subst (λ (m : Seen). Delivers answer name m new result) same rest)
+pub shelved_on : {X : Type 0} (view : X → Answer) (row : Step Answer) (name : List ℕ) (old middle new : Seen) (x : X) (result : Result (List ℕ) Status) → Follows view row old middle (Ok x) → Delivers (view x) name middle new result → Shelved row name old new result
+shelved_on view row name old middle new x result (gave other at same) rest = answered (view x) at result (subst (λ (m : Seen). Delivers (view x) name m new result) same rest)
 
-pub shelved_stop : (row : Step Answer) (name : List ℕ) (old new : Seen) (status : Status) → Follows (λ (a : Answer). a) row old new (Err status) → Shelved row name old new (Err status)
-shelved_stop row name old new status (refused s at is same) = stopped s at is same
-shelved_stop row name old new status (fault same counted) = failed same counted
-shelved_stop row name old new status (memory same) = starved same
-
-pub line_whole : (s : Status) (line : List ℕ) (old new : Said) → line ≡ line_of_status s → Says line old new → SaysLine s old new
-line_whole s line old new is says = inl (subst (λ (l : List ℕ). Says l old new) is says)
-
-pub line_cut : (s : Status) (line : List ℕ) (old new : Said) → line ≡ line_of_status s → SaysFront line old new → SaysLine s old new
-line_cut s line old new is says = inr (inl (subst (λ (l : List ℕ). SaysFront l old new) is says))
-
-pub line_left_out : (s : Status) (old : Said) → SaysLine s old old
-line_left_out s old = inr (inr refl)
-
-pub ruleset lines = (line_whole, line_cut, line_left_out)
+pub shelved_stop : {X : Type 0} (view : X → Answer) (row : Step Answer) (name : List ℕ) (old new : Seen) (status : Status) → Follows view row old new (Err status) → Shelved row name old new (Err status)
+shelved_stop view row name old new status (refused s at is same) = stopped s at is same
+shelved_stop view row name old new status (fault same counted) = failed same counted
+shelved_stop view row name old new status (memory same) = starved same
 
 -- ---- from the end of a command to what callers ask
 
@@ -219,3 +209,18 @@ done_leaves_output row name old new before after status (unprinted text shelved 
 done_leaves_output row name old new before after status (told s shelved says) done = absurd (not_done row name old new (Err s) shelved done)
 
 pub ruleset ends = (exact, completes, counts_shelf, counts_sink, not_usage)
+
+-- ---- reads
+
+module _ {S : Type 0} (gives : Telling S) (inputs : List Input) (first : S) where
+  -- all files were read before the output is written
+  pub read_before : {Y : Type 0} (last : S) (result : Result Y Status) → AreRead gives inputs first last → ReadsBefore gives inputs first result
+  read_before last (Ok y) all = (last, all)
+  read_before last (Err s) all = (last, inl all)
+
+  pub stopped_before : (last : S) (s : Status) → Stops gives inputs first last s → ReadsFirst gives inputs first s
+  stopped_before last s stop = (last, inr stop)
+
+  -- and so before what is printed
+  pub read_first : (s : Status) → (last : S) × AreRead gives inputs first last → ReadsFirst gives inputs first s
+  read_first s all = (all.0, inl all.1)

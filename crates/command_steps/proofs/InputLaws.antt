@@ -1,10 +1,12 @@
--- Reading a whole file is the step of an input file.
-use Rattle.std.proofs.Common.{◌≡◌, ℕ, ◌≤◌, List, length, Option, Some, None, Ok, Err, sym, ap, ◌∙◌}
+-- Reading a whole file is the step of an input file, by the reads that it tells.
+use Rattle.std.proofs.Common.{◌≡◌, ℕ, ◌≤◌, List, [], ◌∷◌, length, Option, Some, None, Ok, Err, sym, ap, ◌∙◌}
 use Rattle.std.specs.Global.{Vec}
 use Rattle.shelf_io.specs.Shelf.{Files, OnFile}
+use Rattle.shelf_io.specs.Reads.{Telling, EndsReads}
 use Rattle.shelf_io.specs.WholeFile.{IsWhole}
 use Rattle.shelf_io.specs.declared.whole_files.ReadAllFault.TheVariants as reading
-use Rattle.command_steps.specs.declared.status.Status.TheVariants.{FileTooLong, FileMissing}
+use Rattle.command_steps.specs.declared.status.Status.TheVariants.{ShelfFault, FileTooLong, FileMissing, NoMemory}
+use Rattle.command_steps.specs.Inputs.{Input, AreRead, none_read, one_read, Stops, whole_input, inside, faulty, absent, beyond, starved}
 use Rattle.command_steps.specs.Step.{InputAt, missing, too_long, found}
 use Rattle.command_steps.specs.Promise.{Seen, Follows, gave, refused}
 use Rattle.command_steps.proofs.StepLaws.{some_and, too_long_is_refusal, missing_is_refusal}
@@ -33,3 +35,26 @@ pub input_too_long : (old new : Seen) (name : List ℕ) (place limit most : ℕ)
     → Follows (λ (v : Vec ℕ). v.items) (InputAt name place limit) old new (Err (FileTooLong most))
 input_too_long old new name place limit most whole is same =
     rw is (refused (FileTooLong limit) (too_long whole) (too_long_is_refusal limit) same)
+
+-- ---- what the reads tell
+
+module _ {S : Type 0} (gives : Telling S) (name : List ℕ) (place limit : ℕ) (first last : S) where
+  abbrev input : Input
+  input = whole_input name place limit
+
+  pub whole_is_read : (read : Vec ℕ) → EndsReads gives name limit first last (Ok read) → AreRead gives (input ∷ []) first last
+  whole_is_read read end = one_read input [] first last last (length read.items, end) (none_read last)
+
+  pub fault_is_read : EndsReads gives name limit first last (Err reading.Failed) → Stops gives (input ∷ []) first last ShelfFault
+  fault_is_read end = inside input [] first last ShelfFault (faulty end.0 end.1)
+
+  pub absence_is_read : EndsReads gives name limit first last (Err reading.Missing) → Stops gives (input ∷ []) first last (FileMissing place)
+  absence_is_read end = inside input [] first last (FileMissing place) (absent end.0 end.1)
+
+  pub excess_is_read : (most : ℕ) → most ≡ limit → EndsReads gives name limit first last (Err (reading.TooLong most)) → Stops gives (input ∷ []) first last (FileTooLong most)
+  excess_is_read most is end = rw is (inside input [] first last (FileTooLong limit) (beyond end.0 end.1 end.2))
+
+  pub want_is_read : EndsReads gives name limit first last (Err reading.NoMemory) → Stops gives (input ∷ []) first last NoMemory
+  want_is_read end = inside input [] first last NoMemory (starved end.0 end.1)
+
+pub ruleset reads = (whole_is_read, fault_is_read, absence_is_read, excess_is_read, want_is_read)

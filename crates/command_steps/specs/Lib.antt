@@ -1,8 +1,11 @@
 pub mod Step
 pub mod Promise
+pub mod Inputs
+pub mod Pieces
+pub mod Words
 pub mod Answer
-pub mod Printing
-pub mod Ends
-pub mod FaultLines
 pub mod StatusLine
+pub mod FaultLines
+pub mod Printing
 pub mod Reply
+pub mod Ends

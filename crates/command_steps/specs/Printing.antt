@@ -2,7 +2,7 @@
 use Rattle.std.specs.Prelude.{◌≡◌, ℕ, ◌⊎◌, List, ◌++◌, take, Option, option_map, Result, Ok, Err}
 use Rattle.shelf_io.specs.Faults.{Counted}
 use Rattle.command_steps.specs.declared.status.Status.{Status}
-use Rattle.command_steps.specs.StatusLine.{line_of_status}
+use Rattle.command_steps.specs.StatusLine.{line_of_status, TakesMemory}
 
 -- a sink, as far as contracts see it: its text, where it tells it, and its count of faults
 pub record Said : Type 0 where
@@ -27,6 +27,7 @@ abbrev pub IsPrinted : {E : Type 0} → List ℕ → Said → Said → Result (U
 IsPrinted bytes old new (Ok done) = Says bytes old new
 IsPrinted bytes old new (Err error) = SaysFront bytes old new
 
--- the line of a status: the whole line, or after a fault a front, or for want of memory nothing
+-- the line of a status: the whole line, or after a fault a front; or nothing, where memory is wanted for what the
+-- line carries
 abbrev pub SaysLine : Status → Said → Said → Type 0
-SaysLine s old new = Says (line_of_status s) old new ⊎ (SaysFront (line_of_status s) old new ⊎ (new ≡ old))
+SaysLine s old new = Says (line_of_status s) old new ⊎ (SaysFront (line_of_status s) old new ⊎ (TakesMemory s × (new ≡ old)))

@@ -1,9 +1,10 @@
--- What a function promises that takes a step.
-use Rattle.std.specs.Prelude.{◌≡◌, ◌≢◌, ℕ, Option, Result, Ok, Err}
+-- What a function promises that takes a step of a command.
+use Rattle.std.specs.Prelude.{◌≡◌, ◌≢◌, ◌⊎◌, ℕ, Option, Result, Ok, Err}
 use Rattle.shelf_io.specs.Faults.{Counted}
 use Rattle.shelf_io.specs.Shelf.{Files}
+use Rattle.steps.specs.Decides as steps
 use Rattle.command_steps.specs.declared.status.Status.{Status}
-use Rattle.command_steps.specs.declared.status.Status.TheVariants.{Done, Usage, ShelfFault, SinkFault, NoMemory}
+use Rattle.command_steps.specs.declared.status.Status.TheVariants.{Done, Usage, ShelfFault, SinkFault, NoMemory, FileMissing}
 use Rattle.command_steps.specs.Step.{Step}
 
 -- a shelf, as far as contracts see it: its files, where it tells them, and its count of faults
@@ -22,6 +23,15 @@ pub record IsRefusal (s : Status) : Type 0 where
   pub not_sink_fault : s ≢ SinkFault
   pub not_memory : s ≢ NoMemory
 
+-- a refusal by what was read: no file is missing
+pub record IsRefusedAlone (s : Status) : Type 0 where
+  pub refusal : IsRefusal s
+  pub not_missing : (place : ℕ) → s ≢ FileMissing place
+
+-- a status of a function that sees no file
+abbrev pub IsBetween : Status → Type 0
+IsBetween s = IsRefusedAlone s ⊎ (s ≡ NoMemory)
+
 -- The function's result is an outcome of the step, its value seen by view; or a fault was counted, or memory
 -- wanted. No file changed, and no other end raises the count.
 pub data Follows {X A : Type 0} (view : X → A) (step : Step A) (old new : Seen) : Result X Status → Type 0 where
@@ -31,7 +41,5 @@ pub data Follows {X A : Type 0} (view : X → A) (step : Step A) (old new : Seen
   memory : new ≡ old → Follows view step old new (Err NoMemory)
 
 -- the same of a function that sees no shelf, at a step that no file decides
-pub data Decides {X A : Type 0} (view : X → A) (step : Step A) : Result X Status → Type 0 where
-  gave_alone : (x : X) → ((files : Option Files) → step files (Ok (view x))) → Decides view step (Ok x)
-  refused_alone : (s : Status) → ((files : Option Files) → step files (Err s)) → IsRefusal s → Decides view step (Err s)
-  memory_alone : Decides view step (Err NoMemory)
+abbrev pub Decides : {X A : Type 0} → (X → A) → Step A → Result X Status → Type 0
+Decides view step result = steps.Decides IsRefusedAlone NoMemory view step result

@@ -1,6 +1,8 @@
 -- The exit status of each way in which a command ends, and the line that is printed.
 use Rattle.std.specs.Prelude.{ℕ, List, [], ◌∷◌, ◌++◌, codes}
 use Rattle.std.specs.Fmt.{decimal}
+use Rattle.constraint_file_spec.specs.declared.fault.ConstraintFault.{ConstraintFault}
+use Rattle.constraint_file_spec.specs.declared.fault.ConstraintFault.TheVariants as faults
 use Rattle.command_steps.specs.declared.status.Status.{Status}
 use Rattle.command_steps.specs.declared.status.Status.TheVariants.{Done, Usage, ShelfFault, SinkFault, FileTooLong, ConstraintRefused, TooLarge, CodeRefused, ChannelRefused, NoMemory, FileMissing, InfiniteMemory, NoVector}
 use Rattle.command_steps.specs.FaultLines.{line_of_constraint_fault, line_of_limit, line_of_code_fault, line_of_channel_fault, line_of_two_states}
@@ -35,3 +37,30 @@ line_of_status (CodeRefused fault) = line_of_code_fault fault
 line_of_status (ChannelRefused fault) = line_of_channel_fault fault
 line_of_status NoMemory = codes "out of memory" ++ 10 ∷ []
 line_of_status (FileMissing place) = codes "missing file: word " ++ decimal place ++ 10 ∷ []
+
+-- the lines that carry a key or a number, for which memory is taken; the others are printed without
+abbrev pub FaultTakesMemory : ConstraintFault → Type 0
+FaultTakesMemory faults.NotToml = ⊥
+FaultTakesMemory (faults.UnknownKey key) = Unit {0}
+FaultTakesMemory (faults.WrongType key) = Unit {0}
+FaultTakesMemory (faults.OutOfRange key) = Unit {0}
+FaultTakesMemory faults.DAboveK = ⊥
+FaultTakesMemory (faults.TooMany key) = Unit {0}
+FaultTakesMemory (faults.BadWord at) = Unit {0}
+FaultTakesMemory (faults.BadEdge at) = Unit {0}
+FaultTakesMemory faults.NoMemory = ⊥
+
+abbrev pub TakesMemory : Status → Type 0
+TakesMemory Done = ⊥
+TakesMemory Usage = ⊥
+TakesMemory ShelfFault = ⊥
+TakesMemory SinkFault = ⊥
+TakesMemory (FileTooLong limit) = Unit {0}
+TakesMemory (ConstraintRefused fault) = FaultTakesMemory fault
+TakesMemory (TooLarge limit) = Unit {0}
+TakesMemory (InfiniteMemory two) = Unit {0}
+TakesMemory NoVector = ⊥
+TakesMemory (CodeRefused fault) = Unit {0}
+TakesMemory (ChannelRefused fault) = Unit {0}
+TakesMemory NoMemory = ⊥
+TakesMemory (FileMissing place) = Unit {0}

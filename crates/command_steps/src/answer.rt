@@ -1,12 +1,23 @@
 ghost use Rattle.std.specs.Prelude.{◌≡◌, string_bytes, option_map};
 ghost use Rattle.shelf_io.specs.Faults.{Counts};
 ghost use Rattle.command_steps.specs.Promise.{seen};
-ghost use Rattle.command_steps.specs.Answer.{writes, prints, IsWritten, IsOutput, Delivers};
+ghost use Rattle.command_steps.specs.Answer.{Answer, writes, prints, IsWritten, IsOutput, Delivers};
 ghost use Rattle.command_steps.specs.Ends.{text_left};
 
 use crate::status::Status;
 use shelf_io::{Failed, Shelf, put_all};
 use std::marker::Model;
+
+/// An answer that is ready to be given: all memory that giving it needs is taken.
+pub trait Delivery: Drop {
+    ghost answer: { Self → Answer };
+
+    /// Writes the output of the answer as the named file, and gives what is left to print, or the
+    /// status that isn't `Done`. After a fault the file is untouched or a front of the output.
+    fn deliver<F: Shelf>(self, shelf: &mut F, name: &str) -> Result<String, Status>
+        ensures delivers { Delivers (answer self) name.now (seen F.files F.faults shelf.old)
+            (seen F.files F.faults shelf.new) (text_left result) };
+}
 
 /// What a command answers: its status, the bytes of its output file, where it writes one, and what
 /// it prints.
@@ -74,21 +85,20 @@ fn write_output<F: Shelf>(shelf: &mut F, name: &str, output: &Option<Vec<u8>>) -
     }
 }
 
-/// Writes the output of an answer as the named file, and gives what is left to print, or the status
-/// that isn't `Done`.
-#[tactic(auto, using(crate::specs::Answer::delivered, crate::specs::Answer::lost, crate::specs::Answer::broken))]
-pub fn deliver<F: Shelf>(shelf: &mut F, name: &str, reply: Reply) -> Result<String, Status>
-    ensures { Delivers reply name.now (seen F.files F.faults shelf.old)
-        (seen F.files F.faults shelf.new) (text_left result) }
-{
-    let Reply {
-        status,
-        output,
-        printed,
-    } = reply;
-    match write_output(shelf, name, &output) {
-        Err(_) => Err(Status::ShelfFault),
-        Ok(()) if status == Status::Done => Ok(printed),
-        Ok(()) => Err(status),
+impl Delivery for Reply {
+    ghost answer = { λ reply. reply };
+
+    #[tactic(auto, using(crate::specs::Answer::delivered, crate::specs::Answer::lost, crate::specs::Answer::broken))]
+    fn deliver<F: Shelf>(self, shelf: &mut F, name: &str) -> Result<String, Status> {
+        let Reply {
+            status,
+            output,
+            printed,
+        } = self;
+        match write_output(shelf, name, &output) {
+            Err(_) => Err(Status::ShelfFault),
+            Ok(()) if status == Status::Done => Ok(printed),
+            Ok(()) => Err(status),
+        }
     }
 }

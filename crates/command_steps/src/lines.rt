@@ -1,7 +1,7 @@
-ghost use Rattle.std.specs.Prelude.{◌≡◌, ◌∷◌, [], ◌++◌, string_bytes, codes, IfOk, OnOk};
+ghost use Rattle.std.specs.Prelude.{◌≡◌, ◌∷◌, [], ◌++◌, string_bytes, codes, IfNone, IfOk, IfSome, OnOk};
 ghost use Rattle.constraint_file_spec.specs.Keys.{key_name};
 ghost use Rattle.command_steps.specs.declared.status.CodeFault.TheVariants as faults;
-ghost use Rattle.command_steps.specs.StatusLine.{line_of_status};
+ghost use Rattle.command_steps.specs.StatusLine.{line_of_status, FaultTakesMemory, TakesMemory};
 ghost use Rattle.command_steps.specs.FaultLines.{behind_spaces, line_of_constraint_fault, line_of_limit, line_of_code_fault, line_of_channel_fault, line_of_two_states, word_text};
 
 use crate::status::{ChannelFault, CodeFault, Limit, Status};
@@ -15,35 +15,64 @@ use symbol_base::{ByteList, Name, NoMemory};
 pub fn status_line(alloc: Global, status: &Status) -> Result<ByteList, NoMemory>
     ensures { IfOk result (λ line. line ≡ line_of_status status.now) }
 {
-    Ok(ByteList::from_vec(line_bytes(alloc, status)?))
+    Ok(ByteList::from_vec(made_line(alloc, status)?))
 }
 
-fn line_bytes(alloc: Global, status: &Status) -> Result<Vec<u8>, NoMemory>
+/// The line of a status that carries no key and no number.
+pub(crate) fn plain_line(status: &Status) -> Option<&'static str>
+    ensures line { IfSome result (λ line. line.now ≡ line_of_status status.now) }
+    ensures none { IfNone result (TakesMemory status.now) }
+{
+    match status {
+        Status::Done => Some(""),
+        Status::Usage => Some("usage\n"),
+        Status::ShelfFault => Some("shelf fault\n"),
+        Status::SinkFault => Some("sink fault\n"),
+        Status::ConstraintRefused(fault) => plain_fault_line(fault),
+        Status::NoVector => Some("no vector\n"),
+        Status::NoMemory => Some("out of memory\n"),
+        _ => None,
+    }
+}
+
+fn plain_fault_line(fault: &ConstraintFault) -> Option<&'static str>
+    ensures line { IfSome result (λ line. line.now ≡ line_of_constraint_fault fault.now) }
+    ensures none { IfNone result (FaultTakesMemory fault.now) }
+{
+    match fault {
+        ConstraintFault::NotToml => Some("constraint refused: not toml\n"),
+        ConstraintFault::DAboveK => Some("constraint refused: d above k\n"),
+        ConstraintFault::NoMemory => Some("out of memory\n"),
+        _ => None,
+    }
+}
+
+/// The line of a status, in memory.
+pub(crate) fn made_line(alloc: Global, status: &Status) -> Result<Vec<u8>, NoMemory>
     ensures { IfOk result (λ line. line.items ≡ line_of_status status.now) }
 {
+    if let Some(line) = plain_line(status) {
+        return Ok(String::from_str(alloc, line)?.into_bytes());
+    }
     let line = match status {
-        Status::Done => String::from_str(alloc, "")?,
-        Status::Usage => String::from_str(alloc, "usage\n")?,
-        Status::ShelfFault => String::from_str(alloc, "shelf fault\n")?,
-        Status::SinkFault => String::from_str(alloc, "sink fault\n")?,
         Status::FileTooLong(limit) => format!(in alloc; "file too long {limit}\n")?,
         Status::ConstraintRefused(fault) => return constraint_fault_line(alloc, fault),
         Status::TooLarge(limit) => limit_line(alloc, *limit)?,
         Status::InfiniteMemory(two) => two_states_line(alloc, two)?,
-        Status::NoVector => String::from_str(alloc, "no vector\n")?,
         Status::CodeRefused(fault) => code_fault_line(alloc, fault)?,
         Status::ChannelRefused(fault) => channel_fault_line(alloc, *fault)?,
-        Status::NoMemory => String::from_str(alloc, "out of memory\n")?,
         Status::FileMissing(place) => format!(in alloc; "missing file: word {place}\n")?,
+        _ => String::new(alloc),
     };
     Ok(line.into_bytes())
 }
 
+/// The line of a refused constraint file whose fault carries a key or a number.
 fn constraint_fault_line(alloc: Global, fault: &ConstraintFault) -> Result<Vec<u8>, NoMemory>
+    requires { FaultTakesMemory fault.now }
     ensures { IfOk result (λ line. line.items ≡ line_of_constraint_fault fault.now) }
 {
     let line = match fault {
-        ConstraintFault::NotToml => String::from_str(alloc, "constraint refused: not toml\n")?,
         ConstraintFault::UnknownKey(key) => return unknown_key_line(alloc, key.as_slice()),
         ConstraintFault::WrongType(key) => key_line(
             alloc,
@@ -55,11 +84,10 @@ fn constraint_fault_line(alloc: Global, fault: &ConstraintFault) -> Result<Vec<u
             "constraint refused: out of range ",
             *key,
         )?,
-        ConstraintFault::DAboveK => String::from_str(alloc, "constraint refused: d above k\n")?,
         ConstraintFault::TooMany(key) => key_line(alloc, "constraint refused: too many ", *key)?,
         ConstraintFault::BadWord(at) => format!(in alloc; "constraint refused: bad word {at}\n")?,
         ConstraintFault::BadEdge(at) => format!(in alloc; "constraint refused: bad edge {at}\n")?,
-        ConstraintFault::NoMemory => String::from_str(alloc, "out of memory\n")?,
+        _ => String::new(alloc),
     };
     Ok(line.into_bytes())
 }

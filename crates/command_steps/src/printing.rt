@@ -1,7 +1,6 @@
-ghost use Rattle.std.specs.Prelude.{◌≡◌};
 ghost use Rattle.command_steps.specs.Printing.{said, IsPrinted, SaysLine};
 
-use crate::lines::status_line;
+use crate::lines::{made_line, plain_line};
 use crate::status::Status;
 use shelf_io::{Failed, TextSink};
 use std::alloc::Global;
@@ -18,13 +17,16 @@ pub fn print_all<K: TextSink>(out: &mut K, bytes: &[u8]) -> Result<(), Failed>
     Ok(())
 }
 
-/// Prints the line of a status, as far as the sink takes it; for want of memory nothing.
-#[tactic(auto, using(crate::proofs::EndLaws::lines))]
+/// Prints the line of a status, as far as the sink takes it; nothing, where memory is wanted for
+/// what the line carries.
+#[tactic(auto, using(crate::proofs::LineLaws::lines))]
 pub fn print_line<K: TextSink>(alloc: Global, out: &mut K, status: &Status)
     ensures { SaysLine status.now (said K.written K.faults out.old)
         (said K.written K.faults out.new) }
 {
-    if let Ok(line) = status_line(alloc, status) {
+    if let Some(line) = plain_line(status) {
+        let _printed = print_all(out, line.as_bytes());
+    } else if let Ok(line) = made_line(alloc, status) {
         let _printed = print_all(out, line.as_slice());
     }
 }

@@ -1,5 +1,5 @@
 -- The keys of a file are told apart by their names, and all are listed.
-use Rattle.std.proofs.Common.{◌≡◌, ℕ, List, length, Option, Some, None, refl, sym, ap, arith, Contains, subst}
+use Rattle.std.proofs.Common.{◌≡◌, ℕ, List, refl, sym, arith, Contains, subst}
 use Rattle.std.specs.Prelude.{◌==◌, if◌then◌else◌, slice_index}
 use Rattle.constraint_file_spec.specs.declared.file.Key.{Key}
 use Rattle.constraint_file_spec.specs.declared.file.Key.TheVariants.{Alphabet, D, K, Forbid, Edges}

@@ -9,7 +9,7 @@ use Rattle.std.proofs.lemmas.List.Elements.{Contains-append_left, Contains-appen
 use Rattle.std.proofs.lemmas.Slice.Eq.{bytes_eq-Decides}
 use Rattle.symbol_base.specs.Ascending.{IsAscending}
 use Rattle.constraint_file_spec.specs.declared.file.ListedEdge.{ListedEdge}
-use Rattle.constraint_file_spec.specs.Refusals.{mentions, first_mentions, state_names}
+use Rattle.constraint_file_spec.specs.Refusals.{mentions, state_names}
 use Rattle.constraint_file_spec.specs.ConstraintFile.{IsAscendingOf}
 use Rattle.constraint_file_spec.specs.Laws.{IsMentionedBefore}
 use Rattle.constraint_file_spec.proofs.Ascending.{first_or_rest, contains_first, contains_rest, ascending_in, ascending_push, one_place}

@@ -9,9 +9,8 @@ use Rattle.constraint_spec.specs.Ranges.{IsEdgeBefore}
 use Rattle.constraint_spec.proofs.EdgeOrder.{edge_not_before_itself, edges_before, edge_before_or_same}
 use Rattle.constraint_file_spec.specs.declared.fault.ConstraintFault.{ConstraintFault}
 use Rattle.constraint_file_spec.specs.declared.fault.ConstraintFault.TheVariants.{NotToml, UnknownKey, NoMemory}
-use Rattle.constraint_file_spec.specs.Values.{keys_of}
 use Rattle.constraint_file_spec.specs.Listed.{◌>>=◌, ListedParts, listed_parts}
-use Rattle.constraint_file_spec.specs.Refusals.{unknown_key, state_names, is_key}
+use Rattle.constraint_file_spec.specs.Refusals.{unknown_key, state_names}
 use Rattle.constraint_file_spec.specs.ConstraintFile.{◌>>◌, document_of, checked_parts, table_parts, file_parts, symbols, numbered, ListsConstraint, ReadsConstraint}
 use Rattle.constraint_file_spec.proofs.Ascending.{listed_once, some_ascending}
 use Rattle.constraint_file_spec.proofs.Refused.{IsLater, later_not_memory, later_parts}

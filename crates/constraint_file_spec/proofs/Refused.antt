@@ -1,10 +1,9 @@
 -- What the steps behind the keys refuse: neither want of memory, nor text, nor an unknown key.
-use Rattle.std.proofs.Common.{◌≡◌, ◌≢◌, ℕ, ℤ, pos, Bool, true, false, not, List, [], length, Option, Some, None, Result, Ok, Err, refl, subst, position}
-use Rattle.std.specs.Prelude.{◌&&◌, ◌||◌, int_le, int_lt, nat_lt, option_map, option_and_then, unwrap_or, ok_or, if◌then◌else◌, IfErr, IfSome}
-use Rattle.toml.specs.Data.{Data, Members, get_member, as_integer, as_array}
+use Rattle.std.proofs.Common.{◌≢◌, ℕ, ℤ, pos, Bool, true, false, not, List, [], length, Option, Some, None, Result, Ok, Err, subst, position}
+use Rattle.std.specs.Prelude.{◌&&◌, ◌||◌, int_le, int_lt, nat_lt, option_map, option_and_then, unwrap_or, if◌then◌else◌, IfErr, IfSome}
+use Rattle.toml.specs.Data.{Members, get_member, as_integer, as_array}
 use Rattle.constraint_file_spec.specs.declared.file.Key.{Key}
 use Rattle.constraint_file_spec.specs.declared.file.Key.TheVariants.{Alphabet, D, K, Forbid, Edges}
-use Rattle.constraint_file_spec.specs.declared.file.ListedEdge.{ListedEdge}
 use Rattle.constraint_file_spec.specs.declared.fault.ConstraintFault.{ConstraintFault}
 use Rattle.constraint_file_spec.specs.declared.fault.ConstraintFault.TheVariants.{NotToml, UnknownKey, OutOfRange, DAboveK, TooMany, BadWord, BadEdge, NoMemory}
 use Rattle.constraint_file_spec.specs.Keys.{least, most, most_names, key_name}

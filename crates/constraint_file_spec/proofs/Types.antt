@@ -1,14 +1,14 @@
 -- The first key whose value has another type is the one that is refused.
-use Rattle.std.proofs.Common.{◌≡◌, ◌↔◌, ℕ, ℤ, Bool, true, false, not, List, [], ◌∷◌, Option, Some, None, Result, Ok, Err, refl, sym, ap, ◌∙◌}
+use Rattle.std.proofs.Common.{◌≡◌, ◌↔◌, ℤ, Bool, true, false, not, List, [], ◌∷◌, Option, Some, None, Result, Ok, Err, refl, ap}
 use Rattle.std.specs.Prelude.{find, is_some, option_map, option_and_then, unwrap_or}
 use Rattle.toml.specs.Data.{Data, Members, get_member, as_integer, as_array}
 use Rattle.constraint_file_spec.specs.declared.file.Key.{Key}
 use Rattle.constraint_file_spec.specs.declared.file.Key.TheVariants.{Alphabet, D, K, Forbid, Edges}
 use Rattle.constraint_file_spec.specs.declared.fault.ConstraintFault.{ConstraintFault}
 use Rattle.constraint_file_spec.specs.declared.fault.ConstraintFault.TheVariants.{WrongType}
-use Rattle.constraint_file_spec.specs.Keys.{key_name, all_keys}
+use Rattle.constraint_file_spec.specs.Keys.{key_name}
 use Rattle.constraint_file_spec.specs.Values.{texts_of, edges_of}
-use Rattle.constraint_file_spec.specs.Listed.{◌>>=◌, ListedParts, or_absent, part_at, number_at, words_at, edges_at, listed_parts, is_well_typed, wrong_type}
+use Rattle.constraint_file_spec.specs.Listed.{◌>>=◌, ListedParts, or_absent, number_at, words_at, edges_at, listed_parts, is_well_typed, wrong_type}
 
 -- what was read is there where the test passed, and else the key is refused
 abbrev Told : {A : Type 0} → Key → Bool → Result A ConstraintFault → Type 0

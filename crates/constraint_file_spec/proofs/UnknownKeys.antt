@@ -1,15 +1,13 @@
 -- The unknown key that is named is the least.
-use Rattle.std.proofs.Common.{◌≡◌, ◌≢◌, ◌↔◌, ℕ, Bool, true, false, not, List, Option, Some, None, Result, Ok, Err, Less, refl, sym, ap, ◌∙◌, subst, Contains, ◌⊎◌, inl, inr}
+use Rattle.std.proofs.Common.{◌≡◌, ℕ, Bool, true, false, not, List, Option, Some, None, Result, Ok, Err, refl, sym, ap}
 use Rattle.std.specs.Prelude.{find, option_map, ok_or, IfErr}
-use Rattle.std.specs.Ordering.{nat_cmp}
-use Rattle.std.specs.Cmp.Lexicographic.{slice_cmp}
 use Rattle.std.proofs.lemmas.Cmp.{nat_list_cmp_total}
 use Rattle.toml.specs.Data.{Members}
 use Rattle.constraint_file_spec.specs.declared.fault.ConstraintFault.{ConstraintFault}
-use Rattle.constraint_file_spec.specs.declared.fault.ConstraintFault.TheVariants.{NotToml, UnknownKey, NoMemory}
+use Rattle.constraint_file_spec.specs.declared.fault.ConstraintFault.TheVariants.{NotToml, UnknownKey}
 use Rattle.constraint_file_spec.specs.Values.{keys_of}
 use Rattle.constraint_file_spec.specs.Listed.{◌>>=◌, ListedParts, listed_parts}
-use Rattle.constraint_file_spec.specs.Refusals.{unknown_key, is_key}
+use Rattle.constraint_file_spec.specs.Refusals.{is_key}
 use Rattle.constraint_file_spec.specs.ConstraintFile.{◌>>◌, document_of, checked_parts, table_parts, file_parts, ReadsConstraint}
 use Rattle.constraint_file_spec.specs.Laws.{IsBytesBefore, IsLeastUnknown}
 use Rattle.constraint_file_spec.proofs.Ascending.{found_least, least_found}

@@ -1,4 +1,4 @@
-ghost use Rattle.std.specs.Prelude.{◌≡◌, ℕ, ◌+◌, ◌<◌, List, [], ◌∷◌, ◌++◌, All, length, map, string_bytes, IfOk, OnOk, codes, None};
+ghost use Rattle.std.specs.Prelude.{◌≡◌, ◌+◌, ◌<◌, [], ◌∷◌, ◌++◌, All, length, map, string_bytes, IfOk, OnOk, OnErr, codes, None};
 ghost use Rattle.std.specs.Fmt.{decimal};
 ghost use Rattle.constraint_file_spec.specs.Keys.{key_name};
 ghost use Rattle.code_text_spec.specs.CodeText.{spaced, digits, limit, edge_line, constraint_lines, text_of};
@@ -13,21 +13,32 @@ use symbol_base::{ByteList, NoMemory};
 pub fn constraint_text(alloc: Global, constraint: &Constraint) -> Result<ByteList, NoMemory>
     ensures { IfOk result (λ text. text ≡ text_of (constraint_lines constraint.now)) }
 {
-    let mut text = String::new(alloc);
-    write_constraint(constraint, &mut text)?;
+    let text = lines_of(alloc, constraint)?;
     Ok(ByteList::from_vec(text.into_bytes()))
 }
 
-/// Writes the same lines behind a text. Where memory is wanted, a front of them may stand there.
+/// Writes the same lines behind a text, which stays as it is where memory is wanted.
 pub fn write_constraint(constraint: &Constraint, text: &mut String) -> Result<(), NoMemory>
-    ensures { OnOk result
+    ensures lines { OnOk result
         (string_bytes text.new
         ≡ string_bytes text.old ++ text_of (constraint_lines constraint.now)) }
+    ensures stays { OnErr result (string_bytes text.new ≡ string_bytes text.old) }
 {
-    write_runs(constraint, text)?;
-    write_words(constraint.forbid.as_slice(), text)?;
-    write_graph_size(constraint, text)?;
-    write_edges(constraint.edges.as_slice(), text)
+    let lines = lines_of(*text.allocator(), constraint)?;
+    text.push_str(&lines)?;
+    Ok(())
+}
+
+/// The lines in a text of their own: a `write!` that wants memory says nothing of what it leaves.
+fn lines_of(alloc: Global, constraint: &Constraint) -> Result<String, NoMemory>
+    ensures { IfOk result (λ text. string_bytes text ≡ text_of (constraint_lines constraint.now)) }
+{
+    let mut text = String::new(alloc);
+    write_runs(constraint, &mut text)?;
+    write_words(constraint.forbid.as_slice(), &mut text)?;
+    write_graph_size(constraint, &mut text)?;
+    write_edges(constraint.edges.as_slice(), &mut text)?;
+    Ok(text)
 }
 
 /// The alphabet, the runs of 0s, and how many forbidden words follow.
@@ -91,10 +102,12 @@ fn write_digits(word: &[u8], text: &mut String) -> Result<(), NoMemory>
     Ok(())
 }
 
-/// The digit of a symbol.
+/// Writes the digit of a symbol behind a text, which stays as it is where memory is wanted.
 pub fn write_digit(symbol: u8, text: &mut String) -> Result<(), NoMemory>
     requires { symbol < 10 }
-    ensures { OnOk result (string_bytes text.new ≡ string_bytes text.old ++ (48 + symbol) ∷ []) }
+    ensures digit { OnOk result
+        (string_bytes text.new ≡ string_bytes text.old ++ (48 + symbol) ∷ []) }
+    ensures stays { OnErr result (string_bytes text.new ≡ string_bytes text.old) }
 {
     text.push(char::from(b'0' + symbol))?;
     Ok(())

@@ -1,9 +1,8 @@
-ghost use Rattle.std.specs.Prelude.{◌≡◌, None, option_map, option_copied, string_bytes, IfOk, ok_or};
+ghost use Rattle.std.specs.Prelude.{◌≡◌, None, option_map, string_bytes, IfOk, ok_or};
 ghost use Rattle.std.specs.BTreeMap.{keys};
 ghost use Rattle.std.specs.List.{list_all};
 ghost use Rattle.toml.specs.Data.{get_member};
 ghost use Rattle.toml.specs.View.{view, table_view, items_view};
-ghost use Rattle.constraint_file_spec.specs.Keys.{key_name};
 ghost use Rattle.constraint_file_spec.specs.Values.{is_edge_key, text_at, edge_of, texts_of, edges_of};
 ghost use Rattle.constraint_file_spec.specs.declared.file.Key.TheVariants.{Forbid, Edges};
 ghost use Rattle.constraint_file_spec.specs.declared.fault.ConstraintFault.TheVariants.{WrongType};

@@ -13,7 +13,8 @@ use Rattle.command_steps.specs.declared.status.Limit.TheVariants.{RawStates, Cov
 use Rattle.command_steps.specs.declared.status.Status.TheVariants.{TooLarge}
 use Rattle.command_steps.specs.Step.{IsSingle}
 use Rattle.command_steps.specs.Promise.{Decides}
-use Rattle.command_steps.proofs.StepLaws.{reads_value, reads_fault, reads_is_single, too_large_is_refusal}
+use Rattle.steps.proofs.StepLaws.{reads_value, reads_fault, reads_is_single}
+use Rattle.command_steps.proofs.StepLaws.{too_large_is_alone}
 use Rattle.design_steps.specs.Covers.{IsCoverWithin, cover_status, CoverOf}
 
 -- ---- a constraint has one cover
@@ -52,24 +53,24 @@ not_both c cover (faults.CoverStates n) within over =
 not_both c cover faults.NoMemory within over = over.1 refl
 
 pub cover_is_single : (c : ConstraintData) → IsSingle (CoverOf c)
-cover_is_single c = reads_is_single (IsCoverWithin c) (λ fault. IsCoverFault c fault × (fault ≡ faults.NoMemory → ⊥)) cover_status (cover_once c) (fault_once c) (not_both c)
+cover_is_single c = λ files. reads_is_single _ (IsCoverWithin c) (λ fault. IsCoverFault c fault × (fault ≡ faults.NoMemory → ⊥)) cover_status (cover_once c) (fault_once c) (not_both c)
 
 -- ---- what the function answers
 
 pub cover_is_within : (c : ConstraintData) (cover : CoverData) → IsCoverOf (IsWordOf c) cover.graph → IsGraph cover.graph → cover.alphabet ≡ c.alphabet
     → (HaveRawStates c 4097 → ⊥) → KeepsSymbols cover → Decides (λ (k : CoverData). k) (CoverOf c) (Ok cover)
 cover_is_within c cover is graph alphabet few keeps =
-    reads_value (IsCoverWithin c) (λ fault. IsCoverFault c fault × (fault ≡ faults.NoMemory → ⊥)) cover_status (λ (k : CoverData). k) cover
+    reads_value _ _ (IsCoverWithin c) (λ fault. IsCoverFault c fault × (fault ≡ faults.NoMemory → ⊥)) cover_status (λ (k : CoverData). k) cover
     (record { is = is; graph = graph; alphabet = alphabet; few_raw = few; few = keeps.states.1 })
 
 pub raw_states_are_over : (c : ConstraintData) (count : ℕ) → IsCoverFault c (faults.RawStates count) → Decides (λ (k : CoverData). k) (CoverOf c) (Err (TooLarge (RawStates count)))
 raw_states_are_over c count is =
-    reads_fault (IsCoverWithin c) (λ fault. IsCoverFault c fault × (fault ≡ faults.NoMemory → ⊥)) cover_status (λ (k : CoverData). k) (faults.RawStates count)
-    (is, λ e. absurd cc) (too_large_is_refusal (RawStates count))
+    reads_fault _ _ (IsCoverWithin c) (λ fault. IsCoverFault c fault × (fault ≡ faults.NoMemory → ⊥)) cover_status (λ (k : CoverData). k) (faults.RawStates count)
+    (is, λ e. absurd cc) (too_large_is_alone (RawStates count))
 
 pub cover_states_are_over : (c : ConstraintData) (count : ℕ) → IsCoverFault c (faults.CoverStates count) → Decides (λ (k : CoverData). k) (CoverOf c) (Err (TooLarge (CoverStates count)))
 cover_states_are_over c count is =
-    reads_fault (IsCoverWithin c) (λ fault. IsCoverFault c fault × (fault ≡ faults.NoMemory → ⊥)) cover_status (λ (k : CoverData). k) (faults.CoverStates count)
-    (is, λ e. absurd cc) (too_large_is_refusal (CoverStates count))
+    reads_fault _ _ (IsCoverWithin c) (λ fault. IsCoverFault c fault × (fault ≡ faults.NoMemory → ⊥)) cover_status (λ (k : CoverData). k) (faults.CoverStates count)
+    (is, λ e. absurd cc) (too_large_is_alone (CoverStates count))
 
 pub ruleset covers = (cover_is_within, raw_states_are_over, cover_states_are_over)

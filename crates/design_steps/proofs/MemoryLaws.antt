@@ -11,7 +11,8 @@ use Rattle.command_steps.specs.declared.status.Limit.TheVariants.{MemoryTooLong}
 use Rattle.command_steps.specs.declared.status.Status.TheVariants.{TooLarge, InfiniteMemory}
 use Rattle.command_steps.specs.Step.{IsSingle}
 use Rattle.command_steps.specs.Promise.{Decides}
-use Rattle.command_steps.proofs.StepLaws.{reads_value, reads_fault, reads_is_single, too_large_is_refusal, infinite_memory_is_refusal}
+use Rattle.steps.proofs.StepLaws.{reads_value, reads_fault, reads_is_single}
+use Rattle.command_steps.proofs.StepLaws.{too_large_is_alone, infinite_memory_is_alone}
 use Rattle.design_steps.specs.Memories.{IsMemoryWithin, memory_status, MemoryOf}
 
 abbrev IsFault : List (List EdgeData) → MemoryFault → Type 0
@@ -43,22 +44,22 @@ not_both rows n (faults.TooLong m) within over =
 not_both rows n faults.NoMemory within over = over.1 refl
 
 pub memory_is_single : (rows : List (List EdgeData)) → IsSingle (MemoryOf rows)
-memory_is_single rows = reads_is_single (IsMemoryWithin rows) (IsFault rows) memory_status (memory_once rows) (fault_once rows) (not_both rows)
+memory_is_single rows = λ files. reads_is_single _ (IsMemoryWithin rows) (IsFault rows) memory_status (memory_once rows) (fault_once rows) (not_both rows)
 
 -- ---- what the function answers
 
 pub memory_is_within : (rows : List (List EdgeData)) (n : ℕ) → IsMemory (length rows) (HasEdge rows) n → n ≤ 256
     → Decides (λ (m : ℕ). m) (MemoryOf rows) (Ok n)
-memory_is_within rows n is short = reads_value (IsMemoryWithin rows) (IsFault rows) memory_status (λ (m : ℕ). m) n (record { memory = is; short = short })
+memory_is_within rows n is short = reads_value _ _ (IsMemoryWithin rows) (IsFault rows) memory_status (λ (m : ℕ). m) n (record { memory = is; short = short })
 
 pub memory_is_infinite : (rows : List (List EdgeData)) (two : TwoStates) → IsMemoryFault rows (faults.Infinite two)
     → Decides (λ (m : ℕ). m) (MemoryOf rows) (Err (InfiniteMemory two))
 memory_is_infinite rows two is =
-    reads_fault (IsMemoryWithin rows) (IsFault rows) memory_status (λ (m : ℕ). m) (faults.Infinite two) (is, λ e. absurd cc) (infinite_memory_is_refusal two)
+    reads_fault _ _ (IsMemoryWithin rows) (IsFault rows) memory_status (λ (m : ℕ). m) (faults.Infinite two) (is, λ e. absurd cc) (infinite_memory_is_alone two)
 
 pub memory_is_over : (rows : List (List EdgeData)) (n : ℕ) → IsMemoryFault rows (faults.TooLong n)
     → Decides (λ (m : ℕ). m) (MemoryOf rows) (Err (TooLarge (MemoryTooLong n)))
 memory_is_over rows n is =
-    reads_fault (IsMemoryWithin rows) (IsFault rows) memory_status (λ (m : ℕ). m) (faults.TooLong n) (is, λ e. absurd cc) (too_large_is_refusal (MemoryTooLong n))
+    reads_fault _ _ (IsMemoryWithin rows) (IsFault rows) memory_status (λ (m : ℕ). m) (faults.TooLong n) (is, λ e. absurd cc) (too_large_is_alone (MemoryTooLong n))
 
 pub ruleset memories = (memory_is_within, memory_is_infinite, memory_is_over)

@@ -11,7 +11,8 @@ use Rattle.command_steps.specs.declared.status.Limit.TheVariants.{PowerEdges}
 use Rattle.command_steps.specs.declared.status.Status.TheVariants.{TooLarge}
 use Rattle.command_steps.specs.Step.{IsSingle}
 use Rattle.command_steps.specs.Promise.{Decides}
-use Rattle.command_steps.proofs.StepLaws.{reads_value, reads_fault, reads_is_single, too_large_is_refusal}
+use Rattle.steps.proofs.StepLaws.{reads_value, reads_fault, reads_is_single}
+use Rattle.command_steps.proofs.StepLaws.{too_large_is_alone}
 use Rattle.design_steps.specs.Powers.{IsPowerWithin, power_status, PowerOf}
 
 abbrev IsFault : CoverData → ℕ → PowerFault → Type 0
@@ -40,19 +41,19 @@ not_both cover q rows (faults.PowerEdges n) within over =
 not_both cover q rows faults.NoMemory within over = over.1 refl
 
 pub power_is_single : (cover : CoverData) (q : ℕ) → IsSingle (PowerOf cover q)
-power_is_single cover q = reads_is_single (IsPowerWithin cover q) (IsFault cover q) power_status (power_once cover q) (fault_once cover q) (not_both cover q)
+power_is_single cover q = λ files. reads_is_single _ (IsPowerWithin cover q) (IsFault cover q) power_status (power_once cover q) (fault_once cover q) (not_both cover q)
 
 -- ---- what the function answers
 
 pub power_is_within : (cover : CoverData) (q : ℕ) (rows : List (List EdgeData)) → IsPower cover q rows → edge_count rows ≤ 262144
     → Decides (λ (k : List (List EdgeData)). k) (PowerOf cover q) (Ok rows)
 power_is_within cover q rows is few =
-    reads_value (IsPowerWithin cover q) (IsFault cover q) power_status (λ (k : List (List EdgeData)). k) rows (record { power = is; few = few })
+    reads_value _ _ (IsPowerWithin cover q) (IsFault cover q) power_status (λ (k : List (List EdgeData)). k) rows (record { power = is; few = few })
 
 pub power_is_over : (cover : CoverData) (q count : ℕ) → IsPowerFault cover q (faults.PowerEdges count)
     → Decides (λ (k : List (List EdgeData)). k) (PowerOf cover q) (Err (TooLarge (PowerEdges count)))
 power_is_over cover q count is =
-    reads_fault (IsPowerWithin cover q) (IsFault cover q) power_status (λ (k : List (List EdgeData)). k) (faults.PowerEdges count)
-    (is, λ e. absurd cc) (too_large_is_refusal (PowerEdges count))
+    reads_fault _ _ (IsPowerWithin cover q) (IsFault cover q) power_status (λ (k : List (List EdgeData)). k) (faults.PowerEdges count)
+    (is, λ e. absurd cc) (too_large_is_alone (PowerEdges count))
 
 pub ruleset powers = (power_is_within, power_is_over)

@@ -11,11 +11,11 @@ use Rattle.label_graphs.proofs.Renumbered.{target_of}
 use Rattle.split_spec.specs.Weighted.{IsWeighted}
 use Rattle.split_spec.proofs.SinkWeights.{a_sink_is_weighted}
 use Rattle.command_steps.specs.declared.status.Limit.TheVariants.{Weight, Spread}
-use Rattle.command_steps.specs.declared.status.Status.{Status}
 use Rattle.command_steps.specs.declared.status.Status.TheVariants.{TooLarge}
 use Rattle.command_steps.specs.Step.{IsSingle}
 use Rattle.command_steps.specs.Promise.{Decides}
-use Rattle.command_steps.proofs.StepLaws.{reads_value, reads_is_single, needs_is_single, needs_met, needs_unmet, then_is_single, gives_is_single, too_large_is_refusal}
+use Rattle.steps.proofs.StepLaws.{finds_value, finds_is_single, needs_is_single, needs_met, needs_unmet, then_is_single, gives_is_single}
+use Rattle.command_steps.proofs.StepLaws.{too_large_is_alone}
 use Rattle.label_graphs.specs.declared.sink_graph.SinkGraph.{SinkGraph}
 use Rattle.label_graphs.proofs.Renumbered.{source_of}
 use Rattle.design_steps.specs.Sinks.{SinkData, IsSinkOf, FindsSink, NeedsWeight, NeedsSpread, SinkOf}
@@ -47,23 +47,17 @@ sink_once power x sink other here there =
     let weights : sink.weights ≡ other.weights = here.weights ∙ ap (λ (s : List ℕ). map (λ state. slice_index x state) s) states ∙ sym there.weights in
     ap (λ s. sink_of s sink.rows sink.weights) states ∙ ap (λ r. sink_of other.states r sink.weights) rows ∙ ap (λ w. sink_of other.states other.rows w) weights
 
-none_once : (a b : Status) → ⊥ → ⊥ → a ≡ b
-none_once a b here there = absurd here
-
-not_both : (power : List (List EdgeData)) (x : List ℕ) (sink : SinkData) (other : Status) → IsSinkOf power x sink → ⊥ → ⊥
-not_both power x sink other is never = never
-
-finds_is_single : (power : List (List EdgeData)) (x : List ℕ) → IsSingle (FindsSink power x)
-finds_is_single power x = reads_is_single (IsSinkOf power x) (λ (none : Status). ⊥) (λ (none : Status). none) (sink_once power x) none_once (not_both power x)
+sink_is_alone : (power : List (List EdgeData)) (x : List ℕ) → IsSingle (FindsSink power x)
+sink_is_alone power x = λ files. finds_is_single _ (IsSinkOf power x) (sink_once power x)
 
 pub sink_is_single : (power : List (List EdgeData)) (x : List ℕ) → IsSingle (SinkOf power x)
 unfolding SinkOf
-sink_is_single power x = search (then_is_single, finds_is_single, needs_is_single, gives_is_single)
+sink_is_single power x = λ files. search (then_is_single, sink_is_alone, needs_is_single, gives_is_single)
 
 -- ---- what the functions answer
 
 pub sink_is_found : (power : List (List EdgeData)) (x : List ℕ) (sink : SinkGraph) → IsSinkOf power x (sink_data sink) → Decides sink_data (FindsSink power x) (Ok sink)
-sink_is_found power x sink is = reads_value (IsSinkOf power x) (λ (none : Status). ⊥) (λ (none : Status). none) sink_data sink is
+sink_is_found power x sink is = finds_value _ _ (IsSinkOf power x) sink_data sink is
 
 -- a sink whose weights meet the inequality is a graph of which a code can be split
 pub sink_is_weighted : (power : List (List EdgeData)) (x : List ℕ) (sink : SinkData) (n : ℕ) → IsSinkOf power x sink → MeetsInequality (target_sum sink.rows) n sink.weights
@@ -74,17 +68,17 @@ sink_is_weighted power x sink n is enough =
     (subst (λ (w : List ℕ). MeetsInequality (target_sum sink.rows) n w) is.weights enough))
 
 pub weight_is_within : (sink : SinkData) (total : ℕ) → total ≡ sum sink.weights → total ≤ 512 → Decides (λ (done : Unit {0}). done) (NeedsWeight sink) (Ok tt)
-weight_is_within sink total is within = needs_met (sum sink.weights ≤ 512) (TooLarge (Weight (sum sink.weights))) (omega (arith, is, within))
+weight_is_within sink total is within = needs_met _ _ (sum sink.weights ≤ 512) (TooLarge (Weight (sum sink.weights))) (omega (arith, is, within))
 
 pub weight_is_over : (sink : SinkData) (total : ℕ) → total ≡ sum sink.weights → 512 < total
     → Decides (λ (done : Unit {0}). done) (NeedsWeight sink) (Err (TooLarge (Weight total)))
 weight_is_over sink total is over = subst (λ n. Decides (λ (done : Unit {0}). done) (NeedsWeight sink) (Err (TooLarge (Weight n)))) (sym is)
-    (needs_unmet (sum sink.weights ≤ 512) (TooLarge (Weight (sum sink.weights))) (λ within. omega (arith, is, over, within)) (too_large_is_refusal (Weight (sum sink.weights))))
+    (needs_unmet _ _ (sum sink.weights ≤ 512) (TooLarge (Weight (sum sink.weights))) (λ within. omega (arith, is, over, within)) (too_large_is_alone (Weight (sum sink.weights))))
 
 pub spread_is_within : (sink : SinkData) (total : ℕ) → total ≡ spread sink.rows sink.weights → total ≤ 262144 → Decides (λ (done : Unit {0}). done) (NeedsSpread sink) (Ok tt)
-spread_is_within sink total is within = needs_met (spread sink.rows sink.weights ≤ 262144) (TooLarge (Spread (spread sink.rows sink.weights))) (omega (arith, is, within))
+spread_is_within sink total is within = needs_met _ _ (spread sink.rows sink.weights ≤ 262144) (TooLarge (Spread (spread sink.rows sink.weights))) (omega (arith, is, within))
 
 pub spread_is_over : (sink : SinkData) (total : ℕ) → total ≡ spread sink.rows sink.weights → 262144 < total
     → Decides (λ (done : Unit {0}). done) (NeedsSpread sink) (Err (TooLarge (Spread total)))
 spread_is_over sink total is over = subst (λ n. Decides (λ (done : Unit {0}). done) (NeedsSpread sink) (Err (TooLarge (Spread n)))) (sym is)
-    (needs_unmet (spread sink.rows sink.weights ≤ 262144) (TooLarge (Spread (spread sink.rows sink.weights))) (λ within. omega (arith, is, over, within)) (too_large_is_refusal (Spread (spread sink.rows sink.weights))))
+    (needs_unmet _ _ (spread sink.rows sink.weights ≤ 262144) (TooLarge (Spread (spread sink.rows sink.weights))) (λ within. omega (arith, is, over, within)) (too_large_is_alone (Spread (spread sink.rows sink.weights))))

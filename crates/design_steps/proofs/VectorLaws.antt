@@ -13,7 +13,8 @@ use Rattle.franaszek.proofs.Products.{vector_within}
 use Rattle.command_steps.specs.declared.status.Status.TheVariants.{NoVector}
 use Rattle.command_steps.specs.Step.{IsSingle}
 use Rattle.command_steps.specs.Promise.{Decides}
-use Rattle.command_steps.proofs.StepLaws.{reads_value, reads_fault, reads_is_single, no_vector_is_refusal}
+use Rattle.steps.proofs.StepLaws.{reads_value, reads_fault, reads_is_single}
+use Rattle.command_steps.proofs.StepLaws.{no_vector_is_alone}
 use Rattle.design_steps.specs.Vectors.{VectorData, IsLeastVector, HasNoVector, VectorOf}
 use Rattle.design_steps.specs.inside.Beginning.{vector_data}
 use Rattle.design_steps.proofs.PowerLaws.{one_power}
@@ -103,7 +104,7 @@ not_both rows n most v none is has =
     has is.least.some.0 (vector_within (target_sum rows) (length rows) n v.bound most is.least.some.0 is.within is.least.some.1)
 
 pub vector_is_single : (rows : List (List EdgeData)) (n most : ℕ) → IsSingle (VectorOf rows n most)
-vector_is_single rows n most = reads_is_single (IsLeastVector rows n most) (λ (none : Unit {0}). HasNoVector rows n most) (λ (none : Unit {0}). NoVector) (vector_once rows n most) (none_once rows n most) (not_both rows n most)
+vector_is_single rows n most = λ files. reads_is_single _ (IsLeastVector rows n most) (λ (none : Unit {0}). HasNoVector rows n most) (λ (none : Unit {0}). NoVector) (vector_once rows n most) (none_once rows n most) (not_both rows n most)
 
 -- ---- what the function answers
 
@@ -143,11 +144,11 @@ none_is_found cover q n most rows matrix (Err e) power words none = tt
 pub vector_is_given : (rows : List (List EdgeData)) (n most : ℕ) (vector : ℕ × List ℕ) → IsLeastVector rows n most (vector_data vector)
     → Decides vector_data (VectorOf rows n most) (Ok vector)
 vector_is_given rows n most vector is =
-    reads_value (IsLeastVector rows n most) (λ (none : Unit {0}). HasNoVector rows n most) (λ (none : Unit {0}). NoVector) vector_data vector is
+    reads_value _ _ (IsLeastVector rows n most) (λ (none : Unit {0}). HasNoVector rows n most) (λ (none : Unit {0}). NoVector) vector_data vector is
 
 pub no_vector_is_given : (rows : List (List EdgeData)) (n most : ℕ) → HasNoVector rows n most → Decides vector_data (VectorOf rows n most) (Err NoVector)
 no_vector_is_given rows n most none =
-    reads_fault (IsLeastVector rows n most) (λ (none : Unit {0}). HasNoVector rows n most) (λ (none : Unit {0}). NoVector) vector_data tt none no_vector_is_refusal
+    reads_fault _ _ (IsLeastVector rows n most) (λ (none : Unit {0}). HasNoVector rows n most) (λ (none : Unit {0}). NoVector) vector_data tt none no_vector_is_alone
 
 pub ruleset vectors = (vector_is_given, no_vector_is_given)
 

@@ -4,7 +4,8 @@ use Rattle.std.specs.Prelude.{ℕ, ◌^◌, List}
 use Rattle.constraint_spec.specs.Constraint.{ConstraintData}
 use Rattle.label_graphs.specs.Graph.{EdgeData}
 use Rattle.label_graphs.specs.Cover.{CoverData}
-use Rattle.command_steps.specs.Step.{Step, ◌>>=◌, Gives}
+use Rattle.steps.specs.Step.{◌>>=◌, Gives}
+use Rattle.command_steps.specs.Step.{Step}
 use Rattle.design_steps.specs.Covers.{CoverOf}
 use Rattle.design_steps.specs.Memories.{MemoryOf}
 use Rattle.design_steps.specs.Powers.{PowerOf}

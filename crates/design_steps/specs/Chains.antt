@@ -3,8 +3,8 @@ use Rattle.std.specs.Prelude.{ℕ, ◌^◌}
 use Rattle.constraint_spec.specs.Constraint.{ConstraintData}
 use Rattle.split_spec.specs.Weighted.{WeightedData}
 use Rattle.split_spec.specs.Chain.{ChainData, IsChain}
-use Rattle.command_steps.specs.declared.status.Status.{Status}
-use Rattle.command_steps.specs.Step.{Step, ◌>>=◌, Gives, Reads}
+use Rattle.steps.specs.Step.{◌>>=◌, Gives, Finds}
+use Rattle.command_steps.specs.Step.{Step}
 use Rattle.design_steps.specs.Begun.{BegunData, BeginsWith}
 use Rattle.design_steps.specs.Sinks.{SinkData}
 
@@ -14,7 +14,7 @@ weighted_sink sink = record { rows = sink.rows; weights = sink.weights }
 
 -- the chain of rounds that are made of a sink, which is always there
 abbrev pub ChainOf : ℕ → SinkData → Step ChainData
-ChainOf n sink = Reads (IsChain n (weighted_sink sink)) (λ (none : Status). ⊥) (λ none. none)
+ChainOf n sink = Finds (IsChain n (weighted_sink sink))
 
 -- what a design begins with, and its rounds
 pub record SplitDesignData : Type 0 where

@@ -10,7 +10,8 @@ use Rattle.min_cover.specs.StateCounts.{HaveRawStates}
 use Rattle.command_steps.specs.declared.status.Limit.TheVariants as limits
 use Rattle.command_steps.specs.declared.status.Status.{Status}
 use Rattle.command_steps.specs.declared.status.Status.TheVariants as statuses
-use Rattle.command_steps.specs.Step.{Step, Reads}
+use Rattle.steps.specs.Step.{Reads}
+use Rattle.command_steps.specs.Step.{Step}
 
 -- the cover, where neither its raw states nor its own states are too many
 pub record IsCoverWithin (c : ConstraintData) (cover : CoverData) : Type 0 where

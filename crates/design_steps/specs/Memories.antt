@@ -8,7 +8,8 @@ use Rattle.min_cover.specs.MemoryFault.{IsMemoryFault}
 use Rattle.command_steps.specs.declared.status.Limit.TheVariants as limits
 use Rattle.command_steps.specs.declared.status.Status.{Status}
 use Rattle.command_steps.specs.declared.status.Status.TheVariants as statuses
-use Rattle.command_steps.specs.Step.{Step, Reads}
+use Rattle.steps.specs.Step.{Reads}
+use Rattle.command_steps.specs.Step.{Step}
 
 -- the memory of the cover with these rows, where it is no longer than a memory may be
 pub record IsMemoryWithin (rows : List (List EdgeData)) (n : ℕ) : Type 0 where

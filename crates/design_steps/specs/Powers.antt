@@ -9,7 +9,8 @@ use Rattle.graph_power.specs.PowerFault.{IsPowerFault}
 use Rattle.command_steps.specs.declared.status.Limit.TheVariants as limits
 use Rattle.command_steps.specs.declared.status.Status.{Status}
 use Rattle.command_steps.specs.declared.status.Status.TheVariants as statuses
-use Rattle.command_steps.specs.Step.{Step, Reads}
+use Rattle.steps.specs.Step.{Reads}
+use Rattle.command_steps.specs.Step.{Step}
 
 -- the rows of the q-th power, where their edges are not too many
 pub record IsPowerWithin (cover : CoverData) (q : ℕ) (rows : List (List EdgeData)) : Type 0 where

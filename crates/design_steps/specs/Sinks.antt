@@ -4,9 +4,9 @@ use Rattle.std.specs.List.{sum}
 use Rattle.label_graphs.specs.Graph.{EdgeData, IsGraph}
 use Rattle.label_graphs.specs.Sink.{IsLeastSink, AreEdgesAmong, spread}
 use Rattle.command_steps.specs.declared.status.Limit.TheVariants.{Weight, Spread}
-use Rattle.command_steps.specs.declared.status.Status.{Status}
 use Rattle.command_steps.specs.declared.status.Status.TheVariants.{TooLarge}
-use Rattle.command_steps.specs.Step.{Step, ◌>>=◌, Gives, Needs, Reads}
+use Rattle.steps.specs.Step.{◌>>=◌, Gives, Needs, Finds}
+use Rattle.command_steps.specs.Step.{Step}
 
 -- some states of a graph, in ascending order, with the edges among them and their weights
 pub record SinkData : Type 0 where
@@ -24,7 +24,7 @@ pub record IsSinkOf (power : List (List EdgeData)) (x : List ℕ) (sink : SinkDa
 
 -- the sink, which is always there
 abbrev pub FindsSink : List (List EdgeData) → List ℕ → Step SinkData
-FindsSink power x = Reads (IsSinkOf power x) (λ (none : Status). ⊥) (λ none. none)
+FindsSink power x = Finds (IsSinkOf power x)
 
 -- the sums of a sink are within their limits
 abbrev pub NeedsWeight : SinkData → Step (Unit {0})

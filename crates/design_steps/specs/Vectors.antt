@@ -4,7 +4,8 @@ use Rattle.std.specs.Prelude.{ℕ, ◌≤◌, List, length}
 use Rattle.label_graphs.specs.Graph.{EdgeData}
 use Rattle.label_graphs.specs.Vector.{target_sum, IsGreatest, IsLeastBound, IsVector}
 use Rattle.command_steps.specs.declared.status.Status.TheVariants.{NoVector}
-use Rattle.command_steps.specs.Step.{Step, Reads}
+use Rattle.steps.specs.Step.{Reads}
+use Rattle.command_steps.specs.Step.{Step}
 
 -- a bound, and a weight for each state
 pub record VectorData : Type 0 where

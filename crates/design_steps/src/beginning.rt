@@ -35,7 +35,7 @@ pub(crate) struct Begun {
 /// The beginning of a design with `p` data bits for each block of `q` symbols and weights up to
 /// `bound` (Adler, Coppersmith, Hassner 1983): every status that a design is refused with comes
 /// from here.
-#[tactic(auto, using(command_steps::proofs::StepLaws::rows_alone, crate::proofs::VectorLaws::vector_is_nonzero), unfolding(crate::specs::Begun::BeginsWith))]
+#[tactic(auto, using(steps::proofs::StepLaws::rows_alone, crate::proofs::VectorLaws::vector_is_nonzero), unfolding(crate::specs::Begun::BeginsWith))]
 pub(crate) fn begin(
     alloc: Global,
     constraint: &Constraint,

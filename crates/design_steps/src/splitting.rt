@@ -4,6 +4,7 @@ ghost use Rattle.label_graphs.specs.Power.{edge_count};
 ghost use Rattle.split_spec.specs.Chain.{split_count};
 ghost use Rattle.split_spec.specs.Weighted.{IsWeighted};
 ghost use Rattle.state_split.specs.Chains.{chain_data};
+ghost use Rattle.state_split.specs.Views.{rounds_data};
 ghost use Rattle.command_steps.specs.Promise.{Decides};
 ghost use Rattle.design_steps.specs.Chains.{ChainOf, SplitsInto, weighted_sink};
 ghost use Rattle.design_steps.specs.Views.{sink_data, split_design_data};
@@ -36,7 +37,7 @@ pub struct SplitDesign {
 
 /// A design with `p` data bits for each block of `q` symbols and weights up to `bound`, up to its
 /// last round (Adler, Coppersmith, Hassner 1983). It is refused only for what it begins with.
-#[tactic(auto, using(command_steps::proofs::StepLaws::rows_alone), unfolding(crate::specs::Chains::SplitsInto))]
+#[tactic(auto, using(steps::proofs::StepLaws::rows_alone), unfolding(crate::specs::Chains::SplitsInto))]
 pub fn split(
     alloc: Global,
     constraint: &Constraint,
@@ -53,7 +54,7 @@ pub fn split(
     ensures step { Decides split_design_data (SplitsInto constraint.now p q bound) result }
     ensures few { IfOk result (λ design. edge_count design.power ≤ 262144) }
     ensures splits { IfOk result (λ design.
-        split_count design.chain.rounds.items + length design.chain.sink.graph ≤ 512) }
+        split_count (rounds_data design.chain.rounds.items) + length design.chain.sink.graph ≤ 512) }
 {
     let begun = begin(alloc, constraint, p, q, bound)?;
     let chain = chain_of(alloc, begun.sink, p)?;
@@ -68,7 +69,7 @@ pub fn split(
 }
 
 /// The rounds of splitting of a sink.
-#[tactic(auto, using(command_steps::proofs::StepLaws::decide_memory))]
+#[tactic(auto, using(steps::proofs::StepLaws::decide_memory))]
 fn chain_of(alloc: Global, sink: SinkGraph, p: u32) -> Result<Chain, Status>
     requires p_one { 1 ≤ p }
     requires p_eight { p ≤ 8 }
@@ -77,7 +78,7 @@ fn chain_of(alloc: Global, sink: SinkGraph, p: u32) -> Result<Chain, Status>
     ensures step { Decides chain_data (ChainOf (2 ^ p) (sink_data sink)) result }
     ensures sink { IfOk result (λ chain. chain.sink ≡ sink) }
     ensures few { IfOk result (λ chain.
-        split_count chain.rounds.items + length chain.sink.graph ≤ 512) }
+        split_count (rounds_data chain.rounds.items) + length chain.sink.graph ≤ 512) }
 {
     Ok(split_all(alloc, sink, p)?)
 }

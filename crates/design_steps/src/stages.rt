@@ -1,4 +1,4 @@
-ghost use Rattle.std.specs.Prelude.{◌≡◌, ℕ, ◌≤◌, ◌^◌, IfNone, IfOk, IfSome, List, length};
+ghost use Rattle.std.specs.Prelude.{◌≡◌, ◌≤◌, ◌^◌, IfNone, IfOk, IfSome, List, length};
 ghost use Rattle.std.specs.List.{sum};
 ghost use Rattle.label_graphs.specs.Graph.{EdgeData};
 ghost use Rattle.label_graphs.specs.Power.{IsPower, edge_count};
@@ -31,7 +31,7 @@ const MOST_WEIGHT: u64 = 512;
 const MOST_SPREAD: u64 = 262_144;
 
 /// The cover of a constraint, within the limits of covers.
-#[tactic(auto, using(crate::proofs::CoverLaws::covers, command_steps::specs::Promise::memory_alone))]
+#[tactic(auto, using(crate::proofs::CoverLaws::covers, steps::specs::Decides::memory_alone))]
 pub fn cover_of(alloc: Global, constraint: &Constraint) -> Result<Cover, Status>
     ensures { Decides (λ cover. cover) (CoverOf constraint.now) result }
 {
@@ -44,7 +44,7 @@ pub fn cover_of(alloc: Global, constraint: &Constraint) -> Result<Cover, Status>
 }
 
 /// The memory of a cover, within its limit.
-#[tactic(auto, using(crate::proofs::MemoryLaws::memories, command_steps::specs::Promise::memory_alone))]
+#[tactic(auto, using(crate::proofs::MemoryLaws::memories, steps::specs::Decides::memory_alone))]
 pub fn memory_of(alloc: Global, cover: &Cover) -> Result<u32, Status>
     ensures { Decides (λ n. n) (MemoryOf cover.now.graph) result }
 {
@@ -57,7 +57,7 @@ pub fn memory_of(alloc: Global, cover: &Cover) -> Result<u32, Status>
 }
 
 /// The power of a cover, within its limit.
-#[tactic(auto, using(crate::proofs::PowerLaws::powers, command_steps::specs::Promise::memory_alone))]
+#[tactic(auto, using(crate::proofs::PowerLaws::powers, steps::specs::Decides::memory_alone))]
 pub fn power_of(alloc: Global, cover: &Cover, q: u32) -> Result<Graph<CoverName>, Status>
     requires one { 1 ≤ q }
     requires twenty { q ≤ 20 }
@@ -74,7 +74,7 @@ pub fn power_of(alloc: Global, cover: &Cover, q: u32) -> Result<Graph<CoverName>
 
 /// The least bound with an approximate eigenvector of the power of a cover, and the greatest within
 /// it.
-#[tactic(auto, using(crate::proofs::VectorLaws::vectors, command_steps::specs::Promise::memory_alone))]
+#[tactic(auto, using(crate::proofs::VectorLaws::vectors, steps::specs::Decides::memory_alone))]
 pub fn vector_of(
     alloc: Global,
     cover: &Cover,
@@ -125,7 +125,7 @@ fn least_vector(
 }
 
 /// The sink of a power with weights, within its limits.
-#[tactic(auto, using(command_steps::proofs::StepLaws::rows_alone), unfolding(crate::specs::Sinks::SinkOf))]
+#[tactic(auto, using(steps::proofs::StepLaws::rows_alone), unfolding(crate::specs::Sinks::SinkOf))]
 pub fn sink_of(
     alloc: Global,
     power: &Graph<CoverName>,
@@ -146,7 +146,7 @@ pub fn sink_of(
     Ok(sink)
 }
 
-#[tactic(auto, using(crate::proofs::SinkLaws::sink_is_found, command_steps::proofs::StepLaws::decide_memory))]
+#[tactic(auto, using(crate::proofs::SinkLaws::sink_is_found, steps::proofs::StepLaws::decide_memory))]
 fn found_sink(
     alloc: Global,
     power: &Graph<CoverName>,

@@ -1,4 +1,4 @@
-ghost use Rattle.std.specs.Prelude.{◌≡◌, ℕ, ◌<◌, ◌≤◌, ◌^◌, All, IfNone, IfOk, IfSome, List, length};
+ghost use Rattle.std.specs.Prelude.{ℕ, ◌<◌, ◌≤◌, ◌^◌, All, IfNone, IfOk, IfSome, List, length};
 ghost use Rattle.std.specs.List.{sum};
 ghost use Rattle.label_graphs.specs.Vector.{IsGreatest, IsLeastBound, IsVector, row_sum};
 

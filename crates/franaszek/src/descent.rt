@@ -1,6 +1,6 @@
 ghost use Rattle.std.specs.Prelude.{◌≡◌, ◌*◌, ◌/◌, ◌+◌, ◌<◌, ◌≤◌, ◌^◌, ℕ, All, IfNone, IfOk, IfSome, length, replicate, slice_index, slice_set};
 ghost use Rattle.std.specs.List.{sum};
-ghost use Rattle.label_graphs.specs.Matrix.{IsMatrix, entry_at};
+ghost use Rattle.label_graphs.specs.Matrix.{entry_at};
 ghost use Rattle.label_graphs.specs.Vector.{IsGreatest, row_sum};
 ghost use Rattle.franaszek.specs.inside.Descent.{AreRowSums};
 

@@ -1,9 +1,9 @@
 -- The product by doublings and sums.
-use Rattle.std.proofs.Common.{◌≡◌, ◌∙◌, ℕ, suc, ◌+◌, ◌*◌, ◌/◌, ◌%◌, ◌^◌, ◌<◌, ◌≤◌, refl, sym, ap, ap₂, arith, add-one}
+use Rattle.std.proofs.Common.{◌≡◌, ◌∙◌, ℕ, suc, ◌+◌, ◌*◌, ◌/◌, ◌%◌, ◌^◌, ◌<◌, ◌≤◌, refl, sym, ap, arith, add-one}
 use Rattle.std.proofs.Math.Nat.{pow-suc, mul-le-mul_left}
 use Rattle.std.specs.Int.Bits.{bit_xor}
 use Rattle.std.proofs.lemmas.Nat.{xor_mod}
-use Rattle.gf256.specs.Field.{IsElement, plus, modulus, shift_step, times, alpha}
+use Rattle.gf256.specs.Field.{IsElement, plus, modulus, times, alpha}
 use Rattle.gf256.proofs.Polynomials.{plus_assoc, plus_comm, plus-zero, split}
 use Rattle.gf256.proofs.Remainders.{shift_step-low, shift_step-high, alpha-times}
 use Rattle.gf256.proofs.FieldLaws.{times_left_comm, times_assoc, times-lt, plus-times}

@@ -1,4 +1,4 @@
-ghost use Rattle.std.specs.Prelude.{◌≡◌, ◌<◌, length, map, slice_index_or, []};
+ghost use Rattle.std.specs.Prelude.{◌≡◌, ◌<◌, length, slice_index_or, []};
 ghost use Rattle.label_graphs.specs.Matrix.{IsMatrix, entry_at};
 ghost use Rattle.label_graphs.specs.Views.{matrix_data};
 

@@ -1,4 +1,4 @@
-ghost use Rattle.std.specs.Prelude.{◌≡◌, ◌<◌, All, IfOk, length, map};
+ghost use Rattle.std.specs.Prelude.{◌<◌, All, IfOk, length, map};
 ghost use Rattle.label_graphs.specs.Reach.{MarkReached};
 ghost use Rattle.label_graphs.specs.Views.{edge_data};
 ghost use Rattle.label_graphs.specs.inside.Found.{IsTaken, AreTaken, targets};

@@ -1,4 +1,4 @@
-ghost use Rattle.std.specs.Prelude.{◌≡◌, ℕ, List, [], ◌∷◌, ◌+◌, ◌<◌, ◌≤◌, length, get_or, IfOk, IfSome, IfNone};
+ghost use Rattle.std.specs.Prelude.{◌≡◌, ℕ, List, ◌∷◌, ◌+◌, ◌<◌, length, get_or, IfOk, IfSome, IfNone};
 ghost use Rattle.symbol_base.specs.Walk.{IsWalk};
 ghost use Rattle.least_walks.specs.LeastWalk.{IsGoal, IsLeastWalk};
 ghost use Rattle.least_walks.specs.inside.Found.{Searched, IsChain, IsTaken, KeepsFront, nothing, node_at, walk_to};

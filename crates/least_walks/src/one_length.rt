@@ -1,4 +1,4 @@
-ghost use Rattle.std.specs.Prelude.{◌≡◌, ℕ, List, ◌+◌, ◌^◌, ◌<◌, ◌↔◌, length, get_or, IsTrue, IfOk, IfSome, IfNone};
+ghost use Rattle.std.specs.Prelude.{ℕ, List, ◌+◌, ◌^◌, ◌<◌, ◌↔◌, length, get_or, IsTrue, IfOk, IfSome, IfNone};
 ghost use Rattle.least_walks.specs.Graph.{AreArcsOf, no_arc};
 ghost use Rattle.least_walks.specs.UnlikeWalk.{IsUnlikeWalk, IsLeastUnlikeWalk};
 ghost use Rattle.least_walks.specs.inside.Layers.{HasUnlikeWalk, IsLeastFrom, IsLeastOfAll, AreLayers, IsLayer, IsUsable, IsFirstUsable};

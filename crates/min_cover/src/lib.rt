@@ -7,15 +7,6 @@ ghost use Rattle.label_graphs.specs.Graph.{EdgeData, HasEdge};
 ghost use Rattle.label_graphs.specs.Cover.{IsCoverOf};
 ghost use Rattle.label_graphs.specs.Memory.{EndTogether, IsMemory, IsLeastReadBack};
 ghost use Rattle.min_cover.specs.Memory.{JoinsBy, IsMemoryOf};
-ghost use Rattle.min_cover.specs.StateCounts.{HaveRawStates};
-ghost use Rattle.constraint_spec.specs.RawState.{RawState};
-ghost use Rattle.constraint_spec.specs.Ranges.{IsConstraint};
-ghost use Rattle.min_cover.specs.inside.Raw.{step_raw};
-ghost use Rattle.min_cover.specs.inside.Search.{IsNumbered, IsSearched, IsByFirst, class_edge};
-ghost use Rattle.min_cover.specs.inside.Machine.{IsStable, IsTold};
-ghost use Rattle.constraint_spec.specs.RawStateOf.{first_raw_state};
-ghost use Rattle.std.specs.Prelude.{Option};
-ghost use Rattle.label_graphs.specs.Cover.{IsCover};
 
 mod cover_memory;
 mod cycles;

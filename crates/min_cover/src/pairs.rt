@@ -1,8 +1,7 @@
-ghost use Rattle.std.specs.Prelude.{◌≡◌, ℕ, ◌/◌, ◌%◌, ◌<◌, ◌≤◌, IfOk, IfSome, length, map};
+ghost use Rattle.std.specs.Prelude.{◌≡◌, ℕ, ◌/◌, ◌%◌, ◌<◌, ◌≤◌, IfSome, length, map};
 ghost use Rattle.label_graphs.specs.Cover.{KeepsSymbols};
-ghost use Rattle.label_graphs.specs.Graph.{EdgeData, IsGraph};
+ghost use Rattle.label_graphs.specs.Graph.{IsGraph};
 ghost use Rattle.label_graphs.specs.Views.{edge_data};
-ghost use Rattle.least_walks.specs.Graph.{AreArcsBelow};
 ghost use Rattle.min_cover.specs.inside.Pairs.{pair_count, pair_step, pair_graph, target_of, Leads};
 
 use label_graphs::{Cover, Edge};

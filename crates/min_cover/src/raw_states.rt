@@ -1,9 +1,9 @@
-ghost use Rattle.std.specs.Prelude.{◌≡◌, ◌<◌, ◌≤◌, ◌++◌, [], ◌∷◌, All, IfOk, false, nat_eq, nat_lt, nat_le, not, ◌&&◌, ◌||◌, filter, length, slice_index_or, min};
+ghost use Rattle.std.specs.Prelude.{◌≡◌, ◌<◌, ◌≤◌, All, IfOk, false, nat_eq, ◌&&◌, ◌||◌, filter, slice_index_or};
 ghost use Rattle.std.specs.List.{list_any, ends_with, starts_with, range_with_len};
 ghost use Rattle.std.specs.Option.{option_map};
 ghost use Rattle.constraint_spec.specs.Ranges.{IsConstraint};
 ghost use Rattle.constraint_spec.specs.RawState.{zeros_limit};
-ghost use Rattle.constraint_spec.specs.RawStateOf.{first_raw_state, begins_forbidden, longest_match, is_led, is_below, next_after_one, next_zeros};
+ghost use Rattle.constraint_spec.specs.RawStateOf.{first_raw_state, begins_forbidden, longest_match, is_led, next_after_one, next_zeros};
 ghost use Rattle.min_cover.specs.inside.Raw.{step_raw};
 ghost use Rattle.min_cover.specs.inside.States.{raw_of, JoinsBelow256, Marks, runs_fit};
 

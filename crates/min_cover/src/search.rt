@@ -1,9 +1,8 @@
-ghost use Rattle.std.specs.Prelude.{◌≡◌, ◌<◌, ◌≤◌, [], List, IfErr, IfOk, length, map};
+ghost use Rattle.std.specs.Prelude.{◌≡◌, ◌<◌, ◌≤◌, [], IfErr, IfOk, length, map};
 ghost use Rattle.min_cover.specs.inside.States.{raw_of};
 ghost use Rattle.min_cover.specs.inside.Found.{NumbersRaw, Follows, IsFoundSoFar, IsSearchFault, AreFollowers};
 ghost use Rattle.constraint_spec.specs.Constraint.{ConstraintData};
 ghost use Rattle.constraint_spec.specs.Ranges.{IsConstraint};
-ghost use Rattle.indexmap.specs.IndexSet.{IsUnique};
 
 use crate::fault::CoverFault;
 use crate::raw_states::{StateKey, first_state, next_state};

@@ -1,11 +1,11 @@
 //! Encoding and correction of many words with the same number of check symbols, by tables.
 
-ghost use Rattle.std.specs.Prelude.{◌≡◌, ℕ, ◌+◌, ◌*◌, ◌<◌, ◌≤◌, ◌↔◌, List, ◌++◌, drop, length, replicate, take, All, IsTrue, IfOk, IsOk, OnErr, OnOk, ◌%◌, ◌/◌, ◌^◌, [], slice_index, slice_index_or};
+ghost use Rattle.std.specs.Prelude.{◌≡◌, ℕ, ◌+◌, ◌*◌, ◌<◌, ◌≤◌, ◌↔◌, List, ◌++◌, length, take, All, IsTrue, IfOk, IsOk, OnErr, OnOk, ◌%◌, ◌/◌, ◌^◌, [], slice_index, slice_index_or};
 ghost use Rattle.std.specs.Int.{w64, w128, to_be_bytes};
 ghost use Rattle.gf256.specs.Field.{IsElement};
 ghost use Rattle.gf256.specs.Linear.{scaled, values};
 ghost use Rattle.rs_code.specs.Polynomial.{IsBelowDegree};
-ghost use Rattle.rs_code.specs.Word.{IsReedSolomonWord, IsNear, differences, weighted_sum};
+ghost use Rattle.rs_code.specs.Word.{IsReedSolomonWord, IsNear, differences};
 ghost use Rattle.rs_code.specs.Remainder.{IsRemainder};
 ghost use Rattle.rs_code.specs.Interleave.{interleave};
 ghost use Rattle.rs_code.specs.inside.Register.{AreRows, AreFarRows, IsRest, register, narrow_step, wide_step, wide_step_behind};

@@ -2,7 +2,7 @@
 //! check symbols, with the roots alpha^0 to alpha^(2t - 1). Up to t wrong symbols are corrected.
 #![tactic(auto)]
 
-ghost use Rattle.std.specs.Prelude.{◌≡◌, ◌↔◌, ℕ, ◌+◌, ◌*◌, ◌<◌, ◌≤◌, List, ◌++◌, length, All, IfOk, OnOk, OnErr, IsOk};
+ghost use Rattle.std.specs.Prelude.{◌≡◌, ℕ, ◌+◌, ◌*◌, ◌<◌, ◌≤◌, List, ◌++◌, length, All, IfOk, OnOk, OnErr, IsOk};
 ghost use Rattle.rs_code.specs.Word.{IsReedSolomonWord, IsNear, differences};
 ghost use Rattle.gf256.specs.Field.{IsElement};
 ghost use Rattle.gf256.specs.Linear.{values};

@@ -1,7 +1,7 @@
 //! The weighted sums of a word, which are 0 for a word of the code.
 
-ghost use Rattle.std.specs.Prelude.{◌≡◌, ℕ, ◌*◌, ◌≤◌, length, take, All};
-ghost use Rattle.gf256.specs.Field.{IsElement, power, alpha};
+ghost use Rattle.std.specs.Prelude.{◌≡◌, ℕ, ◌*◌, ◌≤◌, length, take};
+ghost use Rattle.gf256.specs.Field.{power, alpha};
 ghost use Rattle.gf256.specs.Linear.{values};
 ghost use Rattle.rs_code.specs.Word.{weighted_sum};
 ghost use Rattle.rs_code.specs.Laws.{AreSums};

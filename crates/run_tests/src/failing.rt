@@ -14,7 +14,7 @@ const NO_TWO_ZEROS: &[u8] =
 const TEXT: &[u8] = b"010111110101011101\n";
 
 /// A shelf with a code file `code`, a data file `data` and its text `old`.
-fn three_files(alloc: Global) -> Result<MemoryShelf, Fail> {
+pub fn three_files(alloc: Global) -> Result<MemoryShelf, Fail> {
     let mut shelf = MemoryShelf::new(alloc);
     shelf.add("code", NO_TWO_ZEROS)?;
     shelf.add("data", b"\x1b")?;
@@ -23,7 +23,7 @@ fn three_files(alloc: Global) -> Result<MemoryShelf, Fail> {
 }
 
 /// The words of a command that reads a code and another file, and writes the file `new`.
-fn words(alloc: Global, command: &str, other: &str) -> Result<Vec<String>, Fail> {
+pub fn words(alloc: Global, command: &str, other: &str) -> Result<Vec<String>, Fail> {
     let mut words = Vec::new(alloc);
     words.push(String::from_str(alloc, command)?)?;
     words.push(String::from_str(alloc, "code")?)?;

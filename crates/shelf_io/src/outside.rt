@@ -1,6 +1,6 @@
-ghost use Rattle.std.specs.Prelude.{◌≡◌, ℕ, ◌<◌, ◌≤◌, ⊤, List, Option, Result, length, IfOk};
-ghost use Rattle.shelf_io.specs.declared.outside.Unread.{Unread};
+ghost use Rattle.std.specs.Prelude.{◌≡◌, ℕ, ◌<◌, ◌≤◌, ⊤, List, Option, length, IfOk};
 ghost use Rattle.shelf_io.specs.Faults.{Counted, Counts, CountsUnread};
+ghost use Rattle.shelf_io.specs.Reads.{Telling};
 ghost use Rattle.shelf_io.specs.Shelf.{Files, OnFile, IsLength, IsRead, KeepsRoom, IsMade, IsPut};
 ghost use Rattle.shelf_io.specs.Sink.{IsTaken};
 
@@ -27,9 +27,8 @@ pub trait Shelf {
 
     ghost faults: { Self → ℕ };
 
-    // what a read tells, if anything: the shelf before it, the name, the place, the answer, the
-    // shelf after it
-    ghost read_gives: { Self → List ℕ → ℕ → Result ℕ Unread → Self → Type 0 } = { λ _ _ _ _ _. ⊤ };
+    // what a read tells, if anything
+    ghost read_gives: { Telling Self } = { λ _ _ _ _ _ _. ⊤ };
 
     /// The number of bytes of the file.
     fn length(&mut self, name: &str) -> Result<u64, Unread>
@@ -44,7 +43,7 @@ pub trait Shelf {
         ensures bound { IfOk result (λ n. n ≤ length room.old) }
         ensures bytes { OnFile (files self.old) name.now (IsRead at room.new result) }
         ensures room { KeepsRoom room.old room.new result }
-        ensures gives { read_gives self.old name.now at result self.new }
+        ensures gives { read_gives self.old name.now at (length room.old) result self.new }
         ensures same { files self.new ≡ files self.old }
         ensures count { CountsUnread (faults self.old) (faults self.new) result };
 

@@ -11,7 +11,7 @@ use crate::choice::lightest;
 use crate::leading::all_leads;
 use label_graphs::{Graph, Refinement, SinkGraph, Weights, keep, marked_names};
 use std::alloc::Global;
-use symbol_base::{CoverName, NoMemory, SplitName};
+use symbol_base::{CoverName, NoMemory};
 
 /// The irreducible sink that a design begins with (Marcus, Roth, Siegel, chapter 2: irreducible
 /// sinks; chapter 5: their use in state splitting).

@@ -83,14 +83,14 @@ enough n h state weighted heaviest =
     let least : n * most ≤ weight_of h.weights row = weighted.inequality state heaviest.inside in
     let bound = weights_most h.weights most row (targets_most n h state state weighted heaviest) in
     let product : n * most ≤ length row * most = omega (arith, least, bound) in
-    le_of_mul-le-mul_right product (weighted.positive state 0 heaviest.inside)
+    le_of_mul-le-mul_right product (weighted.weights.positive state 0 heaviest.inside)
 
 -- where no round is needed its edges lead to states of the greatest weight
 leads_to_heaviest : (n : ℕ) (h : WeightedData) (from block to : ℕ) → IsWeighted n h → (NeedsRound h → ⊥) → IsHeaviest h.weights from
     → HasEdge h.rows from block to → IsHeaviest h.weights to
 leads_to_heaviest n h from block to weighted done heaviest edge =
-    let low = target_inside h.rows from block to weighted.graph edge in
-    let size = weighted.size in
+    let low = target_inside h.rows from block to weighted.weights.graph edge in
+    let size = weighted.weights.size in
     elim (cases_lt (get_or h.weights to 0) (get_or h.weights from 0)) [
       | inl less ↦ absurd (done (record { from = from; block = block; to = to; heaviest = heaviest; edge = edge; lighter = less }))
       | inr same ↦ record {
@@ -113,8 +113,8 @@ edges_enough n g chain is weighted k d k_in =
     let low : k < length chain.kept = omega (arith, k_in, size) in
     let found = Contains-get_or chain.kept k 0 low in
     let heaviest = (is.heaviest state).0 found in
-    let inside : state < length is.end.rows = (let below = heaviest.inside in let sizes = weighted.size in omega (arith, below, sizes)) in
-    let many = as_many is.end.rows chain.last chain.kept k weighted.graph (last_part n g chain is) k_in inside
+    let inside : state < length is.end.rows = (let below = heaviest.inside in let sizes = weighted.weights.size in omega (arith, below, sizes)) in
+    let many = as_many is.end.rows chain.last chain.kept k weighted.weights.graph (last_part n g chain is) k_in inside
     (λ block to edge. kept_closed n g chain is weighted state block to found edge) in
     let least = enough n is.end state weighted heaviest in
     let same : length (get_or chain.last k d) ≡ length (get_or chain.last k []) =

@@ -8,10 +8,9 @@ use Rattle.std.proofs.lemmas.List.Sums.{AllPass-from_list_all}
 use Rattle.symbol_base.specs.Walk.{IsWalk}
 use Rattle.symbol_base.proofs.AscendingNumbers.{Contains-range}
 use Rattle.label_graphs.specs.Graph.{HasEdge}
-use Rattle.label_graphs.specs.Reach.{IsReached}
 use Rattle.label_graphs.specs.Sink.{AreEdgesAmong}
 use Rattle.label_graphs.specs.Vector.{MeetsInequality, target_sum}
-use Rattle.split_spec.specs.Weighted.{IsWeighted}
+use Rattle.split_spec.specs.Weighted.{IsIrreducible, IsWeighted}
 use Rattle.split_spec.specs.Chain.{ChainData, IsChain, IsHeaviest, NeedsRound}
 use Rattle.split_spec.specs.Window.{HasWindow}
 use Rattle.split_spec.proofs.EdgeEnds.{edge_to, source_inside, target_inside}
@@ -24,7 +23,7 @@ sink_meets (suc zero) inside = omega arith
 sink_meets (suc (suc state)) inside = absurd (omega (arith, inside))
 
 -- each state leads to each by one edge
-sink_joined : (from to : ℕ) → from < 2 → to < 2 → IsReached sink.rows from to
+pub sink_joined : IsIrreducible sink.rows
 sink_joined zero zero from_in to_in = (3 ∷ [], (0, (1, omega arith, refl), refl))
 sink_joined zero (suc zero) from_in to_in = (2 ∷ [], (1, (0, omega arith, refl), refl))
 sink_joined (suc zero) zero from_in to_in = (5 ∷ [], (0, (0, omega arith, refl), refl))
@@ -35,11 +34,12 @@ sink_joined from (suc (suc to)) from_in to_in = absurd (omega (arith, to_in))
 -- so the sink is a graph of which a code can be split
 pub sink_weighted : IsWeighted 4 sink
 sink_weighted = record {
-  graph = sink_graph;
-  size = refl;
-  positive = All-from_recursion (λ weight. 0 < weight) sink.weights (omega arith, (omega arith, tt));
+  weights = record {
+    graph = sink_graph;
+    size = refl;
+    positive = All-from_recursion (λ weight. 0 < weight) sink.weights (omega arith, (omega arith, tt));
+  };
   inequality = sink_meets;
-  joined = sink_joined;
 }
 
 -- it needs a round: state 0 weighs 2 and leads to state 1, which weighs 1
@@ -95,11 +95,12 @@ all_edges from block to from_in to_in =
     (subst (λ t. HasEdge parts.rows from block to ↔ HasEdge parts.rows from block t) (same_number to to_in) ((λ edge. edge), (λ edge. edge)))
 
 chain : ChainData
-chain = record { rounds = (split ∷ []) ∷ []; kept = kept; last = parts.rows; parents = parents }
+chain = record { sink = sink; rounds = (split ∷ []) ∷ []; kept = kept; last = parts.rows; parents = parents }
 
 is_chain : IsChain 4 sink chain
 unfolding chain
 is_chain = record {
+  of = refl;
   end = parts;
   end_parents = parents;
   rounds = (parts, parents, range_with_len 0 3, sink_needs, round, (refl, refl), refl);

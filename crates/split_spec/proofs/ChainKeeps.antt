@@ -33,7 +33,7 @@ own_edges rows inside from block to edge =
 -- no rounds keep all of it
 kept_by_none : (n : ℕ) (g h : WeightedData) (parents : List ℕ) → IsWeighted n g → RoundsLead n g [] h parents → AreKept n g h parents
 kept_by_none n g h parents weighted same =
-    let own = own_edges g.rows (λ from block to edge. (source_inside g.rows from block to edge, target_inside g.rows from block to weighted.graph edge)) in
+    let own = own_edges g.rows (λ from block to edge. (source_inside g.rows from block to edge, target_inside g.rows from block to weighted.weights.graph edge)) in
     let here : AreKept n g g (range_with_len 0 (length g.rows)) = (weighted, refl, refl, length-range_with_len 0 (length g.rows), own) in
     subst (λ (k : WeightedData). AreKept n g k parents) (sym same.0)
     (subst (λ (ps : List ℕ). AreKept n g g ps) (sym same.1) here)
@@ -47,7 +47,7 @@ kept_by_more composed n g next h first rest weighted sums keeps behind = (
   behind.1 ∙ sums.0,
   behind.2 ∙ sums.1,
   length-map rest (λ s. get_or first s 0) ∙ behind.3,
-  composed h.rows next.rows g.rows rest first behind.3 behind.0.graph.targets behind.4 keeps,
+  composed h.rows next.rows g.rows rest first behind.3 behind.0.weights.graph.targets behind.4 keeps,
 )
 
 -- what one round keeps many rounds keep

@@ -19,7 +19,7 @@ one_is_split splitting n g h splits parents some weighted need round =
 -- the rounds and the states at their beginning are no more than the weights add up to
 pub few_rounds : KeepsWeightsLaw → HeaviestSplitLaw → NoLargerLaw → (n : ℕ) (g h : WeightedData) (rounds : List (List SplitData)) (parents : List ℕ)
     → 1 ≤ n → IsWeighted n g → RoundsLead n g rounds h parents → length rounds + length g.rows ≤ sum g.weights
-few_rounds keeps splitting small n g h [] parents some weighted lead = let most = (small n g weighted).0 in omega (arith, most)
+few_rounds keeps splitting small n g h [] parents some weighted lead = let most = (small g weighted.weights).0 in omega (arith, most)
 few_rounds keeps splitting small n g h (splits ∷ rounds) parents some weighted lead =
     let next = lead.0 in
     let one = keeps n g next splits lead.1 some weighted lead.4 in
@@ -32,7 +32,7 @@ few_rounds keeps splitting small n g h (splits ∷ rounds) parents some weighted
 -- so are the splits
 pub few_splits : KeepsWeightsLaw → NoLargerLaw → (n : ℕ) (g h : WeightedData) (rounds : List (List SplitData)) (parents : List ℕ)
     → 1 ≤ n → IsWeighted n g → RoundsLead n g rounds h parents → split_count rounds + length g.rows ≤ sum g.weights
-few_splits keeps small n g h [] parents some weighted lead = let most = (small n g weighted).0 in omega (arith, most)
+few_splits keeps small n g h [] parents some weighted lead = let most = (small g weighted.weights).0 in omega (arith, most)
 few_splits keeps small n g h (splits ∷ rounds) parents some weighted lead =
     let next = lead.0 in
     let one = keeps n g next splits lead.1 some weighted lead.4 in

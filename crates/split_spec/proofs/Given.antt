@@ -6,7 +6,7 @@ use Rattle.label_graphs.specs.Graph.{EdgeData, HasEdge}
 use Rattle.label_graphs.specs.Power.{edge_count}
 use Rattle.label_graphs.specs.Refinement.{DividesEdges, KeepsEdges, parents_of}
 use Rattle.label_graphs.specs.Sink.{spread}
-use Rattle.split_spec.specs.Weighted.{IsWeighted, WeightedData}
+use Rattle.split_spec.specs.Weighted.{HasPositiveWeights, IsIrreducible, IsWeighted, WeightedData}
 use Rattle.split_spec.specs.Round.{IsRound, IsSplit, SplitData}
 use Rattle.split_spec.specs.Chain.{IsHeaviest}
 
@@ -27,9 +27,14 @@ KeepsWeightsLaw = (n : ℕ) (g h : WeightedData) (splits : List SplitData) (pare
     → IsRound n g splits h parents
     → IsWeighted n h × (sum h.weights ≡ sum g.weights) × (spread h.rows h.weights ≡ spread g.rows g.weights)
 
+-- a round keeps that each state leads to each
+abbrev pub KeepsWaysLaw : Type 0
+KeepsWaysLaw = (n : ℕ) (g h : WeightedData) (splits : List SplitData) (parents : List ℕ) → 1 ≤ n → IsWeighted n g → IsIrreducible g.rows
+    → IsRound n g splits h parents → IsIrreducible h.rows
+
 -- weights bound the numbers of states and of edges
 abbrev pub NoLargerLaw : Type 0
-NoLargerLaw = (n : ℕ) (g : WeightedData) → IsWeighted n g
+NoLargerLaw = (g : WeightedData) → HasPositiveWeights g
     → (length g.rows ≤ sum g.weights) × (edge_count g.rows ≤ spread g.rows g.weights)
 
 -- a state of the greatest weight with an edge to a lighter one is split

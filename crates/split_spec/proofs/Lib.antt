@@ -5,6 +5,7 @@ pub mod ChainLast
 pub mod EdgeEnds
 pub mod Examples
 pub mod FewRounds
+mod KeptStates
 pub mod Given
 pub mod Listed
 pub mod LooksAhead

@@ -55,10 +55,10 @@ one_last n g chain other one two same kept =
     (edge_too one.end.rows chain.last other.last chain.kept here there) (edge_too one.end.rows other.last chain.last chain.kept there here)
 
 -- a chain is told by its parts
-same_parts : (chain other : ChainData) → chain.rounds ≡ other.rounds → chain.kept ≡ other.kept → chain.last ≡ other.last
+same_parts : (chain other : ChainData) → chain.sink ≡ other.sink → chain.rounds ≡ other.rounds → chain.kept ≡ other.kept → chain.last ≡ other.last
     → chain.parents ≡ other.parents → chain ≡ other
-same_parts chain other rounds kept last parents =
-    λ i. record { rounds = rounds i; kept = kept i; last = last i; parents = parents i }
+same_parts chain other sink rounds kept last parents =
+    λ i. record { sink = sink i; rounds = rounds i; kept = kept i; last = last i; parents = parents i }
 
 -- and the chains are one
 pub one_chain : OneRoundLaw → (n : ℕ) (g : WeightedData) (chain other : ChainData) → IsChain n g chain → IsChain n g other → chain ≡ other
@@ -66,5 +66,5 @@ one_chain law n g chain other one two =
     let ends = one_end law n g one.end two.end chain.rounds other.rounds one.end_parents two.end_parents one.rounds two.rounds one.done two.done in
     let kept = ascending_same chain.kept other.kept one.order two.order
     (kept_too n g chain other one two ends.1) (kept_too n g other chain two one (sym ends.1)) in
-    same_parts chain other ends.0 kept (one_last n g chain other one two ends.1 kept)
+    same_parts chain other (one.of ∙ sym two.of) ends.0 kept (one_last n g chain other one two ends.1 kept)
     (one.parents ∙ ap (λ (xs : List ℕ). parents_of xs chain.kept) ends.2 ∙ ap (λ (xs : List ℕ). parents_of two.end_parents xs) kept ∙ sym two.parents)

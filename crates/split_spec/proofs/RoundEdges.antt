@@ -56,7 +56,7 @@ module _ (n : ℕ) (g h : WeightedData) (splits : List SplitData) (parents : Lis
   split_halves split listed =
       let known = (round.exact split).0 listed in
       halves g.weights (get_or g.rows split.state []) known.run.before split.run known.run.behind
-      (weighted.graph.order split.state [] known.inside) known.run.order
+      (weighted.weights.graph.order split.state [] known.inside) known.run.order
 
   -- an edge that leaves a part is one of its parent
   leaves_kept : (part : ℕ) (e : EdgeData) → Leaves g.rows splits part e → Contains (get_or g.rows (get_or parents part 0) []) e

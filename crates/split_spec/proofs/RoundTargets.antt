@@ -143,8 +143,8 @@ module _ (n : ℕ) (g h : WeightedData) (splits : List SplitData) (parents : Lis
   whole_sum state inside unsplit =
       let size = parents_size (length g.rows) splits parents round.parents_are in
       let rows = round.rows_size in
-      part_sum state (get_or g.rows state []) (omega (arith, rows, size, inside)) (row_once (get_or g.rows state []) (weighted.graph.order state [] inside))
-      (λ e edge. target_inside g.rows state e.block e.to weighted.graph edge)
+      part_sum state (get_or g.rows state []) (omega (arith, rows, size, inside)) (row_once (get_or g.rows state []) (weighted.weights.graph.order state [] inside))
+      (λ e edge. target_inside g.rows state e.block e.to weighted.weights.graph edge)
       (λ e leaves. leaves_whole g.rows splits (split_inside n g h splits parents weighted round) state e unsplit inside leaves)
       (λ e edge. whole inside unsplit edge)
 
@@ -156,7 +156,7 @@ module _ (n : ℕ) (g h : WeightedData) (splits : List SplitData) (parents : Lis
       let low = split_inside n g h splits parents weighted round split listed in
       let parted = split_halves n g h splits parents weighted round split listed in
       part_sum split.state split.run (omega (arith, rows, size, low)) parted.run_once
-      (λ e edge. target_inside g.rows split.state e.block e.to weighted.graph (parted.of_run e edge))
+      (λ e edge. target_inside g.rows split.state e.block e.to weighted.weights.graph (parted.of_run e edge))
       (λ e leaves. leaves_run g.rows splits (split_inside n g h splits parents weighted round) split e round.order listed leaves)
       (λ e edge. in_run split listed refl edge)
 
@@ -172,7 +172,7 @@ module _ (n : ℕ) (g h : WeightedData) (splits : List SplitData) (parents : Lis
       let within = slice_get_within splits place split at in
       let parted = split_halves n g h splits parents weighted round split listed in
       part_sum (length g.rows + place) (others_of n g h splits parents weighted round split listed) (omega (arith, rows, size, within)) parted.others_once
-      (λ e edge. target_inside g.rows split.state e.block e.to weighted.graph (parted.of_others e edge))
+      (λ e edge. target_inside g.rows split.state e.block e.to weighted.weights.graph (parted.of_others e edge))
       (λ e leaves.
       let told = leaves_rest g.rows splits (split_inside n g h splits parents weighted round) place split e at leaves in
       elim (parted.either e told.0) [

@@ -6,7 +6,7 @@ use Rattle.symbol_base.specs.Walk.{IsWalk}
 use Rattle.symbol_base.proofs.Walks.{walk-more}
 use Rattle.label_graphs.specs.Graph.{EdgeData, HasEdge}
 use Rattle.label_graphs.specs.Reach.{IsReached}
-use Rattle.split_spec.specs.Weighted.{IsWeighted, WeightedData}
+use Rattle.split_spec.specs.Weighted.{IsIrreducible, IsWeighted, WeightedData}
 use Rattle.split_spec.specs.Round.{SplitData, IsRound}
 use Rattle.split_spec.proofs.EdgeEnds.{edge_to, target_inside}
 use Rattle.split_spec.proofs.RoundParts.{parent_inside}
@@ -39,8 +39,8 @@ module _ (n : ℕ) (g h : WeightedData) (splits : List SplitData) (parents : Lis
       (e.block ∷ [], (part, step, refl))
 
   -- each state is reached from one with an edge
-  pub parts_joined : (from to : ℕ) → from < length h.rows → to < length h.rows → 0 < length (get_or h.rows from []) → IsReached h.rows from to
-  parts_joined from to from_in to_in some =
+  pub parts_joined : IsIrreducible g.rows → (from to : ℕ) → from < length h.rows → to < length h.rows → 0 < length (get_or h.rows from []) → IsReached h.rows from to
+  parts_joined joined from to from_in to_in some =
       let row = get_or h.rows from [] in
       let e : EdgeData = get_or row 0 (edge_to 0 0) in
       let edge = Contains-get_or row 0 (edge_to 0 0) some in
@@ -48,5 +48,5 @@ module _ (n : ℕ) (g h : WeightedData) (splits : List SplitData) (parents : Lis
       let target = target_inside h.rows from e.block e.to round.graph edge in
       let within = parent_inside (length g.rows) splits parents round.parents_are (split_inside n g h splits parents weighted round) in
       let to_part : to < length parents = omega (arith, to_in, size) in
-      let way = weighted.joined (get_or parents e.to 0) (get_or parents to 0) (within e.to (omega (arith, target, size))) (within to to_part) in
+      let way = joined (get_or parents e.to 0) (get_or parents to 0) (within e.to (omega (arith, target, size))) (within to to_part) in
       all_along way.0 from (get_or parents e.to 0) (get_or parents to 0) way.1 (all_first from e edge) to to_part refl

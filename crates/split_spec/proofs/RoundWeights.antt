@@ -8,7 +8,7 @@ use Rattle.std.proofs.lemmas.List.{nil_from_length}
 use Rattle.std.proofs.lemmas.List.Elements.{All-from_get_or}
 use Rattle.label_graphs.specs.Sink.{spread}
 use Rattle.label_graphs.specs.Vector.{target_sum}
-use Rattle.split_spec.specs.Weighted.{IsWeighted, WeightedData}
+use Rattle.split_spec.specs.Weighted.{IsIrreducible, IsWeighted, WeightedData}
 use Rattle.split_spec.specs.Run.{weight_of}
 use Rattle.split_spec.specs.Round.{SplitData, IsRound}
 use Rattle.split_spec.proofs.EdgeEnds.{target_inside}
@@ -22,7 +22,7 @@ use Rattle.split_spec.proofs.SumsCounted.{counted_edges}
 module _ (n : ℕ) (g h : WeightedData) (splits : List SplitData) (parents : List ℕ) (weighted : IsWeighted n g) (round : IsRound n g splits h parents) where
   -- a state of the old graph weighs something
   state_weight : (state : ℕ) → state < length g.rows → 0 < get_or g.weights state 0
-  state_weight state inside = let size = weighted.size in weighted.positive state 0 (omega (arith, size, inside))
+  state_weight state inside = let size = weighted.weights.size in weighted.weights.positive state 0 (omega (arith, size, inside))
 
   -- the part with the run weighs something
   run_weight : (split : SplitData) → Contains splits split → 0 < split.y
@@ -30,7 +30,7 @@ module _ (n : ℕ) (g h : WeightedData) (splits : List SplitData) (parents : Lis
       let known = (round.exact split).0 listed in
       let parted = split_halves n g h splits parents weighted round split listed in
       let count = counted_edges g.weights split.run
-      (λ e edge. state_weight e.to (target_inside g.rows split.state e.block e.to weighted.graph (parted.of_run e edge))) in
+      (λ e edge. state_weight e.to (target_inside g.rows split.state e.block e.to weighted.weights.graph (parted.of_run e edge))) in
       let some = known.run.some in
       let all = known.run.weight in
       elim (cases_lt 0 split.y) [
@@ -56,7 +56,7 @@ module _ (n : ℕ) (g h : WeightedData) (splits : List SplitData) (parents : Lis
   part_meets : (part : ℕ) → part < length parents → n * get_or h.weights part 0 ≤ target_sum h.rows h.weights part
   part_meets = part_by (length g.rows) splits parents round.parents_are (λ part. n * get_or h.weights part 0 ≤ target_sum h.rows h.weights part)
       (λ state inside unsplit.
-      let size = weighted.size in
+      let size = weighted.weights.size in
       let old = weighted.inequality state (omega (arith, size, inside)) in
       let sums = whole_sum n g h splits parents weighted round state inside unsplit in
       let kept = ap (λ w. n * w) (round.whole state inside unsplit) in
@@ -70,7 +70,7 @@ module _ (n : ℕ) (g h : WeightedData) (splits : List SplitData) (parents : Lis
       (λ place split at.
       let listed = split_listed splits place split at in
       let known = (round.exact split).0 listed in
-      let size = weighted.size in
+      let size = weighted.weights.size in
       let inside = known.inside in
       let old = weighted.inequality split.state (omega (arith, size, inside)) in
       let run = run_sum n g h splits parents weighted round split listed in
@@ -98,18 +98,24 @@ module _ (n : ℕ) (g h : WeightedData) (splits : List SplitData) (parents : Lis
       let size = round.weights_size in
       let rows = round.rows_size in
       record {
-        graph = round.graph;
-        size = size ∙ sym rows;
-        positive = All-from_get_or (λ weight. 0 < weight) h.weights 0 (λ part inside. part_weight part (omega (arith, inside, size)));
+        weights = record {
+          graph = round.graph;
+          size = size ∙ sym rows;
+          positive = All-from_get_or (λ weight. 0 < weight) h.weights 0 (λ part inside. part_weight part (omega (arith, inside, size)));
+        };
         inequality = λ part inside. part_meets part (omega (arith, inside, size));
-        joined = λ from to from_in to_in.
-            parts_joined n g h splits parents weighted round from to from_in to_in (part_leaves least from (omega (arith, from_in, rows)));
       }
+
+  -- each of its states leads to each, where the old ones do
+  pub round_irreducible : 1 ≤ n → IsIrreducible g.rows → IsIrreducible h.rows
+  round_irreducible least joined from to from_in to_in =
+      let rows = round.rows_size in
+      parts_joined n g h splits parents weighted round joined from to from_in to_in (part_leaves least from (omega (arith, from_in, rows)))
 
   -- its weights have the same sum
   pub round_sum : sum h.weights ≡ sum g.weights
   round_sum =
-      let same = weighted.size in
+      let same = weighted.weights.size in
       let size = parents_size (length g.rows) splits parents round.parents_are in
       let all = round.weights_size in
       sum_over_parts splits g.weights h.weights round.order (omega (arith, same, size, all))
@@ -129,6 +135,10 @@ module _ (n : ℕ) (g h : WeightedData) (splits : List SplitData) (parents : Lis
       sum_over_states splits (length g.rows) (length h.rows) (λ state. target_sum h.rows h.weights state) (λ state. target_sum g.rows g.weights state)
       round.order (omega (arith, size, rows)) (split_inside n g h splits parents weighted round)
       (whole_sum n g h splits parents weighted round) (parts_sum n g h splits parents weighted round)
+
+-- ways are kept by any round
+pub ways_kept : (n : ℕ) (g h : WeightedData) (splits : List SplitData) (parents : List ℕ) → 1 ≤ n → IsWeighted n g → IsIrreducible g.rows → IsRound n g splits h parents → IsIrreducible h.rows
+ways_kept n g h splits parents least weighted joined round = round_irreducible n g h splits parents weighted round least joined
 
 -- all three for any round
 pub weights_kept : (n : ℕ) (g h : WeightedData) (splits : List SplitData) (parents : List ℕ) → 1 ≤ n → IsWeighted n g → IsRound n g splits h parents

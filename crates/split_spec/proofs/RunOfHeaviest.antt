@@ -15,8 +15,8 @@ use Rattle.split_spec.proofs.SumsBounded.{AreAtMost, weights_below}
 pub targets_most : (n : ℕ) (g : WeightedData) (state from : ℕ) → IsWeighted n g → IsHeaviest g.weights state
     → AreAtMost g.weights (slice_index g.weights state) (slice_index_or g.rows from [])
 targets_most n g state from known heaviest e found =
-    let there = target_inside g.rows from e.block e.to known.graph found in
-    heaviest.most e.to 0 (let size = known.size in omega (arith, there, size))
+    let there = target_inside g.rows from e.block e.to known.weights.graph found in
+    heaviest.most e.to 0 (let size = known.weights.size in omega (arith, there, size))
 
 -- such a state has more than n edges, and is split
 pub heaviest_states_are_split : (n : ℕ) (g : WeightedData) (state block to : ℕ) → 1 ≤ n → IsWeighted n g → IsHeaviest g.weights state
@@ -26,12 +26,12 @@ heaviest_states_are_split n g state block to some known heaviest edge lighter =
     let row = get_or g.rows state [] in
     let m = slice_index g.weights state in
     let light = edge_to block to in
-    let inside : state < length g.rows = (let here = heaviest.inside in let size = known.size in omega (arith, here, size)) in
+    let inside : state < length g.rows = (let here = heaviest.inside in let size = known.weights.size in omega (arith, here, size)) in
     let most = targets_most n g state state known heaviest in
     let low = weights_below g.weights m row light most edge lighter in
     let enough = known.inequality state heaviest.inside in
     let long : n < length row = lt_of_mul-lt-mul_right m (omega (arith, low, enough)) in
-    let found = a_long_row_has_a_run n g.weights row (ordered_row g.weights row (known.graph.order state [] inside)) some (omega (arith, long)) in (
+    let found = a_long_row_has_a_run n g.weights row (ordered_row g.weights row (known.weights.graph.order state [] inside)) some (omega (arith, long)) in (
       long,
       (
         record { state = state; run = found.run; y = found.y },

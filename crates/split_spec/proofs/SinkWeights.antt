@@ -7,7 +7,7 @@ use Rattle.symbol_base.specs.Walk.{IsWalk}
 use Rattle.label_graphs.specs.Graph.{EdgeData, HasEdge, IsGraph}
 use Rattle.label_graphs.specs.Sink.{AreEdgesAmong, IsPositiveEdge, IsSink}
 use Rattle.label_graphs.specs.Vector.{MeetsInequality, target_sum}
-use Rattle.split_spec.specs.Weighted.{IsWeighted}
+use Rattle.split_spec.specs.Weighted.{IsIrreducible, IsWeighted}
 use Rattle.split_spec.proofs.Listed.{listed_at}
 use Rattle.split_spec.proofs.OrderTold.{number_strict, one_place}
 
@@ -33,13 +33,19 @@ pub a_sink_is_weighted : (n : ℕ) (power rows : List (List EdgeData)) (x states
     → MeetsInequality (target_sum rows) n (map (λ state. slice_index x state) states)
     → IsWeighted n (record { rows = rows; weights = map (λ state. slice_index x state) states })
 a_sink_is_weighted n power rows x states sink graph size among enough = record {
-  graph = graph;
-  size = length-map states (λ state. slice_index x state) ∙ sym size;
-  positive = All-map (λ weight. 0 < weight) (λ state. slice_index x state) states (λ k d inside. (sink.positive k d inside).1);
+  weights = record {
+    graph = graph;
+    size = length-map states (λ state. slice_index x state) ∙ sym size;
+    positive = All-map (λ weight. 0 < weight) (λ state. slice_index x state) states (λ k d inside. (sink.positive k d inside).1);
+  };
   inequality = enough;
-  joined = λ from to from_in to_in.
-      let here : from < length states = omega (arith, from_in, size) in
-      let there : to < length states = omega (arith, to_in, size) in
-      let led = sink.joined (slice_index states from) (slice_index states to) (Contains-get_or states from 0 here) (Contains-get_or states to 0 there) in
-      (led.0, walk_inside power rows x states led.0 from to sink among here there led.1);
 }
+
+-- each state of a sink leads to each
+pub a_sink_is_irreducible : (power rows : List (List EdgeData)) (x states : List ℕ) → IsSink power x states → length rows ≡ length states → AreEdgesAmong power states rows
+    → IsIrreducible rows
+a_sink_is_irreducible power rows x states sink size among from to from_in to_in =
+    let here : from < length states = omega (arith, from_in, size) in
+    let there : to < length states = omega (arith, to_in, size) in
+    let led = sink.joined (slice_index states from) (slice_index states to) (Contains-get_or states from 0 here) (Contains-get_or states to 0 there) in
+    (led.0, walk_inside power rows x states led.0 from to sink among here there led.1)

@@ -10,7 +10,7 @@ use Rattle.label_graphs.specs.Graph.{EdgeData}
 use Rattle.label_graphs.specs.Power.{edge_count}
 use Rattle.label_graphs.specs.Sink.{spread}
 use Rattle.label_graphs.specs.Vector.{target_sum}
-use Rattle.split_spec.specs.Weighted.{IsWeighted, WeightedData}
+use Rattle.split_spec.specs.Weighted.{HasPositiveWeights, WeightedData}
 use Rattle.split_spec.specs.Run.{weight_of}
 use Rattle.split_spec.proofs.EdgeEnds.{target_inside}
 use Rattle.split_spec.proofs.Listed.{listed_first, listed_behind}
@@ -35,15 +35,15 @@ counted_edges x (e ∷ row) positive =
     omega (arith, here, rest, more)
 
 -- a state has no more edges than these lead to weights
-row_counted : (n : ℕ) (g : WeightedData) (state : ℕ) → IsWeighted n g → length (get_or g.rows state []) ≤ target_sum g.rows g.weights state
-row_counted n g state known =
+row_counted : (g : WeightedData) (state : ℕ) → HasPositiveWeights g → length (get_or g.rows state []) ≤ target_sum g.rows g.weights state
+row_counted g state known =
     counted_edges g.weights (get_or g.rows state []) (λ e found.
     let there = target_inside g.rows state e.block e.to known.graph found in
     known.positive e.to 0 (let size = known.size in omega (arith, there, size)))
 
 -- and so all states together
-counted_rows : (n : ℕ) (g : WeightedData) → IsWeighted n g → edge_count g.rows ≤ spread g.rows g.weights
-counted_rows n g known =
+counted_rows : (g : WeightedData) → HasPositiveWeights g → edge_count g.rows ≤ spread g.rows g.weights
+counted_rows g known =
     let states = range_with_len 0 (length g.rows) in
     let count : ℕ → ℕ = λ state. length (get_or g.rows state []) in
     let lengths = map (λ (row : List EdgeData). length row) g.rows in
@@ -53,11 +53,11 @@ counted_rows n g known =
     let all = ap sum by_state in
     let one = sum-map count states in
     let other = sum-map (λ state. target_sum g.rows g.weights state) states in
-    let most = sum_by-le-sum_by count (λ state. target_sum g.rows g.weights state) states (λ state. row_counted n g state known) in
+    let most = sum_by-le-sum_by count (λ state. target_sum g.rows g.weights state) states (λ state. row_counted g state known) in
     omega (arith, all, one, other, most)
 
 -- no more states than the weights add up to, and no more edges than the weights that these lead to
-pub graphs_are_no_larger : (n : ℕ) (g : WeightedData) → IsWeighted n g
+pub graphs_are_no_larger : (g : WeightedData) → HasPositiveWeights g
     → (length g.rows ≤ sum g.weights) × (edge_count g.rows ≤ spread g.rows g.weights)
-graphs_are_no_larger n g known =
-    (let states = counted_numbers g.weights known.positive in let size = known.size in omega (arith, states, size), counted_rows n g known)
+graphs_are_no_larger g known =
+    (let states = counted_numbers g.weights known.positive in let size = known.size in omega (arith, states, size), counted_rows g known)

@@ -35,6 +35,7 @@ abbrev pub split_count : List (List SplitData) → ℕ
 split_count rounds = sum (map (λ splits. length splits) rounds)
 
 pub record ChainData : Type 0 where
+  pub sink : WeightedData
   pub rounds : List (List SplitData)
   pub kept : List ℕ
   pub last : List (List EdgeData)
@@ -43,6 +44,7 @@ pub record ChainData : Type 0 where
 -- Rounds are made of the sink until none is needed. Then the states of the greatest weight are kept, with the edges
 -- among them: they are the last graph, numbered anew in ascending order, and each has its parent in the sink.
 pub record IsChain (n : ℕ) (sink : WeightedData) (chain : ChainData) : Type 0 where
+  pub of : chain.sink ≡ sink
   pub end : WeightedData
   pub end_parents : List ℕ
   pub rounds : RoundsLead n sink chain.rounds end end_parents

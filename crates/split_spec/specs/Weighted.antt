@@ -8,10 +8,17 @@ pub record WeightedData : Type 0 where
   pub rows : List (List EdgeData)
   pub weights : List ℕ
 
--- Each state has a weight of at least 1, the weights are an approximate eigenvector, and each state leads to each.
-pub record IsWeighted (n : ℕ) (g : WeightedData) : Type 0 where
+-- each state has a weight of at least 1
+pub record HasPositiveWeights (g : WeightedData) : Type 0 where
   pub graph : IsGraph g.rows
   pub size : length g.weights ≡ length g.rows
   pub positive : All (λ weight. 0 < weight) g.weights
+
+-- these are an approximate eigenvector
+pub record IsWeighted (n : ℕ) (g : WeightedData) : Type 0 where
+  pub weights : HasPositiveWeights g
   pub inequality : MeetsInequality (target_sum g.rows) n g.weights
-  pub joined : (from to : ℕ) → from < length g.rows → to < length g.rows → IsReached g.rows from to
+
+-- each state leads to each
+abbrev pub IsIrreducible : List (List EdgeData) → Type 0
+IsIrreducible rows = (from to : ℕ) → from < length rows → to < length rows → IsReached rows from to

@@ -1,16 +1,16 @@
 ghost use Rattle.std.specs.Prelude.{◌≡◌, ℕ, ◌+◌, ◌<◌, ◌≤◌, List, length, All, Contains};
 ghost use Rattle.std.specs.List.{sum};
-ghost use Rattle.label_graphs.specs.Graph.{EdgeData, HasEdge};
+ghost use Rattle.label_graphs.specs.Graph.{HasEdge};
 ghost use Rattle.label_graphs.specs.Refinement.{KeepsEdges};
 ghost use Rattle.label_graphs.specs.Sink.{spread};
-ghost use Rattle.split_spec.specs.Weighted.{IsWeighted, WeightedData};
+ghost use Rattle.split_spec.specs.Weighted.{IsIrreducible, IsWeighted, WeightedData};
 ghost use Rattle.split_spec.specs.Round.{SplitData};
 ghost use Rattle.split_spec.specs.Chain.{ChainData, IsChain, RoundsLead, split_count};
 ghost use Rattle.split_spec.specs.Window.{HasWindow};
 
 use crate::rounds::{
-    a_round_divides_edges, a_round_keeps_weights, graphs_are_no_larger, heaviest_states_are_split,
-    one_round_follows,
+    a_round_divides_edges, a_round_keeps_ways, a_round_keeps_weights, graphs_are_no_larger,
+    heaviest_states_are_split, one_round_follows,
 };
 use crate::windows::rounds_look_ahead;
 use label_graphs::composed_refinements_keep_edges;
@@ -72,6 +72,29 @@ pub fn kept_states_have_edges_enough()
         → HasEdge is.end.rows state block to → Contains chain.kept to }
 {
     rounds_keep_weights();
+}
+
+/// The last graph of a chain has a state, where the sink has one, and no more states than the
+/// sink's weights add up to.
+pub fn kept_states_are_few()
+    ensures some { (n : ℕ) (g : WeightedData) (chain : ChainData) → 1 ≤ n → IsWeighted n g
+        → IsChain n g chain → 0 < length g.rows → 0 < length chain.last }
+    ensures few { (n : ℕ) (g : WeightedData) (chain : ChainData) → 1 ≤ n → IsWeighted n g
+        → IsChain n g chain → length chain.last ≤ sum g.weights }
+{
+    rounds_keep_weights();
+    graphs_are_no_larger();
+}
+
+/// In the last graph of a chain each state leads to each, where it does so in the sink.
+pub fn kept_states_lead_to_each_other()
+    ensures { (n : ℕ) (g : WeightedData) (chain : ChainData) → 1 ≤ n → IsWeighted n g
+        → IsIrreducible g.rows → IsChain n g chain → IsIrreducible chain.last }
+{
+    rounds_keep_weights();
+    a_round_keeps_weights();
+    a_round_keeps_ways();
+    kept_states_have_edges_enough();
 }
 
 /// Each edge of the last graph of a chain is one of the sink, between the parents of its states.

@@ -5,7 +5,7 @@ ghost use Rattle.label_graphs.specs.Power.{edge_count};
 ghost use Rattle.label_graphs.specs.Refinement.{DividesEdges, KeepsEdges};
 ghost use Rattle.label_graphs.specs.Sink.{AreEdgesAmong, IsSink, spread};
 ghost use Rattle.label_graphs.specs.Vector.{MeetsInequality, target_sum};
-ghost use Rattle.split_spec.specs.Weighted.{IsWeighted, WeightedData};
+ghost use Rattle.split_spec.specs.Weighted.{HasPositiveWeights, IsIrreducible, IsWeighted, WeightedData};
 ghost use Rattle.split_spec.specs.Round.{IsRound, IsSplit, SplitData};
 ghost use Rattle.split_spec.specs.Chain.{IsHeaviest};
 
@@ -17,6 +17,12 @@ pub fn a_sink_is_weighted()
         → MeetsInequality (target_sum rows) n (map (λ state. slice_index x state) states)
         → IsWeighted n
         (record { rows = rows; weights = map (λ state. slice_index x state) states }) }
+{}
+
+/// Each state of a sink leads to each.
+pub fn a_sink_is_irreducible()
+    ensures { (power rows : List (List EdgeData)) (x states : List ℕ) → IsSink power x states
+        → length rows ≡ length states → AreEdgesAmong power states rows → IsIrreducible rows }
 {}
 
 /// At most one graph follows a graph by a round, with the same splits and the same parents.
@@ -36,8 +42,8 @@ pub fn a_round_divides_edges()
         → KeepsEdges h.rows g.rows parents × DividesEdges h.rows g.rows parents }
 {}
 
-/// A round keeps weights of 1 and more, the inequality, that each state leads to each, the sum of
-/// the weights, and the sum of the weights that edges lead to (Adler, Coppersmith, Hassner 1983).
+/// A round keeps weights of 1 and more, the inequality, the sum of the weights, and the sum of the
+/// weights that edges lead to (Adler, Coppersmith, Hassner 1983).
 pub fn a_round_keeps_weights()
     ensures { (n : ℕ) (g h : WeightedData) (splits : List SplitData) (parents : List ℕ) → 1 ≤ n
         → IsWeighted n g
@@ -46,10 +52,17 @@ pub fn a_round_keeps_weights()
         × (spread h.rows h.weights ≡ spread g.rows g.weights) }
 {}
 
+/// A round keeps that each state leads to each.
+pub fn a_round_keeps_ways()
+    ensures { (n : ℕ) (g h : WeightedData) (splits : List SplitData) (parents : List ℕ) → 1 ≤ n
+        → IsWeighted n g → IsIrreducible g.rows
+        → IsRound n g splits h parents → IsIrreducible h.rows }
+{}
+
 /// A graph has no more states than its weights add up to, and no more edges than the weights that
 /// these lead to.
 pub fn graphs_are_no_larger()
-    ensures { (n : ℕ) (g : WeightedData) → IsWeighted n g
+    ensures { (g : WeightedData) → HasPositiveWeights g
         → (length g.rows ≤ sum g.weights) × (edge_count g.rows ≤ spread g.rows g.weights) }
 {}
 

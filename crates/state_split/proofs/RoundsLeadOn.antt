@@ -2,13 +2,14 @@
 use Rattle.std.proofs.Common.{◌≡◌, ℕ, ◌<◌, List, [], ◌∷◌, ◌++◌, length, get_or, refl, ap, sym, ◌∙◌, subst, arith}
 use Rattle.std.specs.Prelude.{All}
 use Rattle.std.specs.List.{range_with_len}
-use Rattle.std.proofs.lemmas.List.{get_or-map, length-map}
+use Rattle.std.proofs.lemmas.List.{get_or-map, length-map, map-append}
 use Rattle.std.proofs.lemmas.List.Elements.{All-head, All-tail}
 use Rattle.std.proofs.lemmas.List.FromFn.{fill_by_all, get_or-range_with_len, length-range_with_len}
 use Rattle.label_graphs.specs.Refinement.{parents_of}
 use Rattle.split_spec.specs.Weighted.{WeightedData}
 use Rattle.split_spec.specs.Round.{SplitData, IsRound}
 use Rattle.split_spec.specs.Chain.{NeedsRound, RoundsLead}
+use Rattle.state_split.specs.Views.{RoundData, rounds_data}
 use Rattle.state_split.proofs.StageRound.{parents_inside}
 
 -- rounds give each state of the graph to which they lead a parent
@@ -73,6 +74,10 @@ rounds_lead_on n g h k (before ∷ rounds) splits parents last lead need round =
       rounds_lead_on n lead.0 h k rounds splits lead.2 last lead.5 need round,
       ap (λ (ps : List ℕ). parents_of ps last) lead.6 ∙ parents_twice lead.1 lead.2 last inside,
     )
+
+-- the splits of rounds with one more
+pub one_more : (rounds more : List RoundData) (round : RoundData) → more ≡ rounds ++ round ∷ [] → rounds_data more ≡ rounds_data rounds ++ round.splits ∷ []
+one_more rounds more round are = ap rounds_data are ∙ map-append (λ (r : RoundData). r.splits) rounds (round ∷ [])
 
 -- the same of lists that are what one more round makes
 pub one_more_round : (n : ℕ) (g h k : WeightedData) (rounds more : List (List SplitData)) (splits : List SplitData) (parents : List ℕ) → RoundsLead n g rounds h parents

@@ -71,11 +71,12 @@ pub record IsEnd (n : ℕ) (sink end : WeightedData) (rounds : List (List SplitD
 -- it ends a chain
 pub end_of_chain : (n : ℕ) (sink end : WeightedData) (rounds : List (List SplitData)) (end_parents : List ℕ) (marks : List Bool) (last : List (List EdgeData))
     → IsEnd n sink end rounds end_parents marks last → (kept parents : List ℕ) → kept ≡ marked_states marks → parents ≡ parents_of end_parents kept
-    → IsChain n sink (record { rounds = rounds; kept = kept; last = last; parents = parents })
+    → IsChain n sink (record { sink = sink; rounds = rounds; kept = kept; last = last; parents = parents })
 end_of_chain n sink end rounds end_parents marks last known kept parents are given =
     let states = marked_states marks in
     let size = known.kept.size in
-    let here : IsChain n sink (record { rounds = rounds; kept = states; last = last; parents = parents_of end_parents states }) = record {
+    let here : IsChain n sink (record { sink = sink; rounds = rounds; kept = states; last = last; parents = parents_of end_parents states }) = record {
+      of = refl;
       end = end;
       end_parents = end_parents;
       rounds = known.lead;
@@ -87,5 +88,5 @@ end_of_chain n sink end rounds end_parents marks last known kept parents are giv
       edges = λ from block to from_in to_in. known.kept.edges from block to (omega (arith, from_in, size)) (omega (arith, to_in, size));
       parents = refl;
     } in
-    subst (λ (ps : List ℕ). IsChain n sink (record { rounds = rounds; kept = kept; last = last; parents = ps })) (sym given)
-    (subst (λ (ss : List ℕ). IsChain n sink (record { rounds = rounds; kept = ss; last = last; parents = parents_of end_parents ss })) (sym are) here)
+    subst (λ (ps : List ℕ). IsChain n sink (record { sink = sink; rounds = rounds; kept = kept; last = last; parents = ps })) (sym given)
+    (subst (λ (ss : List ℕ). IsChain n sink (record { sink = sink; rounds = rounds; kept = ss; last = last; parents = parents_of end_parents ss })) (sym are) here)

@@ -1,11 +1,10 @@
 ghost use Rattle.std.specs.Prelude.{◌≡◌, ◌+◌, ◌↔◌, ◌<◌, ◌≤◌, ◌^◌, ℕ, All, IfOk, false, length, slice_index_or, true};
 ghost use Rattle.std.specs.List.{sum};
-ghost use Rattle.label_graphs.specs.Kept.{marked_states};
 ghost use Rattle.label_graphs.specs.Refinement.{parents_of};
 ghost use Rattle.split_spec.specs.Chain.{IsChain, IsHeaviest, NeedsRound, RoundsLead, split_count};
 ghost use Rattle.split_spec.specs.Weighted.{IsWeighted};
 ghost use Rattle.state_split.specs.Chains.{chain_data};
-ghost use Rattle.state_split.specs.Views.{weighted};
+ghost use Rattle.state_split.specs.Views.{rounds_data, weighted};
 
 use crate::order::greatest;
 use crate::round::{Round, round_of};
@@ -40,7 +39,7 @@ pub fn split_all(alloc: Global, sink: SinkGraph, p: u32) -> Result<Chain, NoMemo
         IsChain (2 ^ p) (weighted sink.graph sink.weights) (chain_data chain)) }
     ensures sink { IfOk result (λ chain. chain.sink ≡ sink) }
     ensures few { IfOk result (λ chain.
-        split_count chain.rounds.items + length chain.sink.graph ≤ 512) }
+        split_count (rounds_data chain.rounds.items) + length chain.sink.graph ≤ 512) }
 {
     splits_are_few();
     let (rounds, stage) = all_rounds(alloc, &sink, 1 << p)?;
@@ -64,7 +63,7 @@ fn all_rounds(alloc: Global, sink: &SinkGraph, n: u32) -> Result<(Vec<Round>, St
     requires weighted { IsWeighted n (weighted sink.now.graph sink.now.weights) }
     requires light { sum sink.now.weights ≤ 512 }
     ensures rounds { IfOk result (λ made.
-        RoundsLead n (weighted sink.now.graph sink.now.weights) made.0.items
+        RoundsLead n (weighted sink.now.graph sink.now.weights) (rounds_data made.0.items)
         (weighted made.1.graph made.1.weights) made.1.parents) }
     ensures done { IfOk result (λ made. NeedsRound (weighted made.1.graph made.1.weights) → ⊥) }
     ensures weights { IfOk result (λ made. length made.1.weights ≡ length made.1.graph) }

@@ -1,4 +1,4 @@
-ghost use Rattle.std.specs.Prelude.{◌≡◌, ◌↔◌, ℕ, ◌+◌, ◌<◌, ◌≤◌, ◌^◌, All, Contains, IfOk, IsTrue, List, length, slice_index};
+ghost use Rattle.std.specs.Prelude.{◌≡◌, ◌↔◌, ◌+◌, ◌<◌, ◌^◌, All, Contains, IfOk, IsTrue, List, length, slice_index};
 ghost use Rattle.symbol_base.specs.Ascending.{IsAscending};
 ghost use Rattle.label_graphs.specs.Graph.{EdgeData, IsEdgeBefore};
 ghost use Rattle.label_graphs.specs.Views.{edge_data};

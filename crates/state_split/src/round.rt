@@ -1,4 +1,4 @@
-ghost use Rattle.std.specs.Prelude.{◌≡◌, ◌<◌, ◌≤◌, All, IfNone, IfOk, IfSome, length, ℕ};
+ghost use Rattle.std.specs.Prelude.{◌≡◌, ◌<◌, ◌≤◌, All, IfNone, IfOk, IfSome, length};
 ghost use Rattle.split_spec.specs.Round.{SplitData};
 ghost use Rattle.state_split.specs.Views.{weighted};
 ghost use Rattle.state_split.specs.inside.Classes.{HoldWeights};
@@ -23,7 +23,6 @@ pub struct Split {
 }
 
 impl Model for Split {
-    ghost use Rattle.std.specs.Prelude.{map};
     ghost use Rattle.split_spec.specs.Round.{SplitData};
     ghost use Rattle.state_split.specs.Views.{edges_data};
 
@@ -39,12 +38,11 @@ pub struct Round {
 }
 
 impl Model for Round {
-    ghost use Rattle.std.specs.Prelude.{List};
-    ghost use Rattle.split_spec.specs.Round.{SplitData};
+    ghost use Rattle.state_split.specs.Views.{RoundData};
 
-    ghost Value = { List SplitData };
+    ghost Value = { RoundData };
 
-    ghost view = { λ round. round.splits.items };
+    ghost view = { λ round. record { splits = round.splits.items } };
 }
 
 /// The splits of the next round: of each state whose run weighs less than the state.
@@ -60,7 +58,7 @@ pub fn round_of(
     requires light { All (λ weight. weight ≤ 512) weights.now }
     requires positive { All (λ weight. 0 < weight) weights.now }
     ensures { IfOk result (λ round.
-        AreSplitsBelow n (weighted graph.now weights.now) (length graph.now) round) }
+        AreSplitsBelow n (weighted graph.now weights.now) (length graph.now) round.splits) }
 {
     let mut room = Classes::new(alloc, weights)?;
     let mut splits = Vec::new(alloc);

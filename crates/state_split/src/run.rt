@@ -1,4 +1,4 @@
-ghost use Rattle.std.specs.Prelude.{◌≡◌, ℕ, ◌*◌, ◌<◌, ◌≤◌, All, IfNone, IfOk, IfSome, List, length};
+ghost use Rattle.std.specs.Prelude.{◌≡◌, ℕ, ◌<◌, ◌≤◌, All, IfNone, IfOk, IfSome, List, length};
 ghost use Rattle.symbol_base.specs.Ascending.{IsAscending};
 ghost use Rattle.label_graphs.specs.Graph.{EdgeData, IsEdgeBefore};
 ghost use Rattle.split_spec.specs.Run.{IsLightestFirst, IsRun, weight_of};

@@ -1,6 +1,6 @@
-ghost use Rattle.std.specs.Prelude.{◌≡◌, ◌↔◌, ◌+◌, ◌<◌, ◌≤◌, ◌^◌, All, Contains, IfOk, IsTrue, List, length, slice_index, ℕ};
+ghost use Rattle.std.specs.Prelude.{◌≡◌, ◌↔◌, ◌+◌, ◌<◌, ◌^◌, All, Contains, IfOk, IsTrue, List, length, slice_index, ℕ};
 ghost use Rattle.std.specs.List.{range_with_len};
-ghost use Rattle.label_graphs.specs.Graph.{EdgeData, IsGraph};
+ghost use Rattle.label_graphs.specs.Graph.{EdgeData};
 ghost use Rattle.label_graphs.specs.Refinement.{parents_of};
 ghost use Rattle.split_spec.specs.Chain.{NeedsRound};
 ghost use Rattle.split_spec.specs.Round.{IsRound};
@@ -84,13 +84,13 @@ fn leads_lower(edges: &[Edge<SplitName>], weights: &Weights, most: u32) -> bool
 pub fn next_stage(alloc: Global, stage: &Stage, round: &Round) -> Result<Stage, NoMemory>
     requires size { length stage.now.weights ≡ length stage.now.graph }
     requires parents { length stage.now.parents ≡ length stage.now.graph }
-    requires splits { HasSplits (weighted stage.now.graph stage.now.weights) round.now }
-    requires count { length stage.now.graph + length round.now < 2 ^ 32 }
+    requires splits { HasSplits (weighted stage.now.graph stage.now.weights) round.now.splits }
+    requires count { length stage.now.graph + length round.now.splits < 2 ^ 32 }
     ensures { (n : ℕ)
         → AreSplitsBelow n (weighted stage.now.graph stage.now.weights) (length stage.now.graph)
-        round.now
+        round.now.splits
         → IfOk result (λ next. (parents : List ℕ)
-        × IsRound n (weighted stage.now.graph stage.now.weights) round.now
+        × IsRound n (weighted stage.now.graph stage.now.weights) round.now.splits
         (weighted next.graph next.weights) parents
         × (next.parents ≡ parents_of stage.now.parents parents)) }
 {
@@ -111,12 +111,14 @@ fn divided(
     round: &Round,
 ) -> Result<Stage, NoMemory>
     requires size { length weights.now ≡ length graph.now }
-    requires splits { HasSplits (weighted graph.now weights.now) round.now }
-    requires count { length graph.now + length round.now < 2 ^ 32 }
+    requires splits { HasSplits (weighted graph.now weights.now) round.now.splits }
+    requires count { length graph.now + length round.now.splits < 2 ^ 32 }
     ensures { (n : ℕ)
-        → AreSplitsBelow n (weighted graph.now weights.now) (length graph.now) round.now
+        → AreSplitsBelow n (weighted graph.now weights.now) (length graph.now)
+        round.now.splits
         → IfOk result (λ next.
-        IsRound n (weighted graph.now weights.now) round.now (weighted next.graph next.weights) next.parents) }
+        IsRound n (weighted graph.now weights.now) round.now.splits
+        (weighted next.graph next.weights) next.parents) }
 {
     let parts = second_parts(alloc, graph.states(), &round.splits)?;
     Ok(Stage {

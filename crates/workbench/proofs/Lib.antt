@@ -1,10 +1,1 @@
-pub mod ChannelLaws
-pub mod CheckLaws
-pub mod CodeLaws
-pub mod ConstraintLaws
-pub mod RowLaws
-pub mod TextLaws
-pub mod DecodeLaws
-pub mod TextPieceLaws
-pub mod IncomingLaws
-pub mod ExplainLaws
+mod ChannelLaws

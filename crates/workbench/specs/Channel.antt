@@ -22,7 +22,7 @@ HasTextOfWord code text old new =
 
 -- What a command that was done has put on the channel is a word of the constraint that its code keeps.
 abbrev pub KeepsConstraint : Form → Option Files → Option Files → Status → Type 0
-KeepsConstraint (check code) old new status = Unit {0}
-KeepsConstraint (explain constraint p q bound) old new status = Unit {0}
-KeepsConstraint (decode code text target) old new status = Unit {0}
-KeepsConstraint (encode code source text) old new status = status ≡ Done → HasTextOfWord code text old new
+KeepsConstraint (check words) old new status = Unit {0}
+KeepsConstraint (explain words) old new status = Unit {0}
+KeepsConstraint (decode words) old new status = Unit {0}
+KeepsConstraint (encode words) old new status = status ≡ Done → HasTextOfWord words.code words.text old new

@@ -5,8 +5,7 @@ use Rattle.command_steps.specs.declared.status.Status.TheVariants.{Usage}
 use Rattle.command_steps.specs.Promise.{Seen}
 use Rattle.command_steps.specs.Printing.{Said, SaysLine}
 use Rattle.command_steps.specs.Ends.{Ends}
-use Rattle.workbench.specs.Forms.{Form, form_of, output_of}
-use Rattle.workbench.specs.Rows.{row_of}
+use Rattle.workbench.specs.Forms.{Form, form_of, output_of, row_of}
 
 -- a form ends as its row says; words of no form end with `Usage`, change no file, and have its line printed
 abbrev pub RunsForm : Option Form → Seen → Seen → Said → Said → Status → Type 0

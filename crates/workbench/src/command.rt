@@ -1,29 +1,33 @@
-ghost use Rattle.std.specs.Prelude.{◌≡◌, ◌≤◌, map, string_bytes, option_map, IfSome};
-ghost use Rattle.workbench.specs.Forms.{IsWithin, number_within, explain_form, three_files_form, form_of};
+ghost use Rattle.std.specs.Prelude.{◌≡◌, map, string_bytes, option_map};
+ghost use Rattle.workbench.specs.Forms.{three_files_form, form_of};
 ghost use Rattle.workbench.specs.Views.{form_seen};
 
-use text_reading::number_in;
+use code_commands::{Check, Decode, Encode};
+use design_commands::Explain;
 
-/// What the words ask for: a form of the command line, with its names and numbers.
-#[derive(Clone, Copy)]
+/// What the words ask for: a form of the command line, with its words.
+#[derive(Drop)]
 pub enum Command<'a> {
-    /// The code file.
-    Check(&'a str),
-    /// The constraint file; p data bits for q symbols, and the greatest weight that is tried.
-    Explain(&'a str, u32, u32, u32),
-    /// The code file, the data file and the text file.
-    Encode(&'a str, &'a str, &'a str),
-    /// The code file, the text file and the data file.
-    Decode(&'a str, &'a str, &'a str),
+    /// `check CODE`.
+    Check(Check<'a>),
+    /// `explain CONSTRAINT P Q BOUND`.
+    Explain(Explain<'a>),
+    /// `encode CODE DATA TEXT`.
+    Encode(Encode<'a>),
+    /// `decode CODE TEXT DATA`.
+    Decode(Decode<'a>),
 }
 
 /// The command whose form the words are.
 pub fn command_of(words: &[String]) -> Option<Command<'_>>
-    ensures form { option_map form_seen result ≡ form_of (map string_bytes words.now) }
-    ensures within { IfSome result (λ command. IsWithin (form_seen command)) }
+    ensures { option_map form_seen result ≡ form_of (map string_bytes words.now) }
 {
     match words {
-        [command, code] if command.as_str() == "check" => Some(Command::Check(code.as_str())),
+        [command, code] if command.as_str() == "check" => {
+            Some(Command::Check(Check {
+                code: code.as_str(),
+            }))
+        }
         [command, code, source, target] => {
             three_files_command(
                 command.as_str(),
@@ -33,7 +37,13 @@ pub fn command_of(words: &[String]) -> Option<Command<'_>>
             )
         }
         [command, constraint, p, q, bound] if command.as_str() == "explain" => {
-            explain_command(constraint.as_str(), p.as_str(), q.as_str(), bound.as_str())
+            let words = Explain::of_words(
+                constraint.as_str(),
+                p.as_str(),
+                q.as_str(),
+                bound.as_str(),
+            )?;
+            Some(Command::Explain(words))
         }
         _ => None,
     }
@@ -47,42 +57,14 @@ fn three_files_command<'a>(
     source: &'a str,
     target: &'a str,
 ) -> Option<Command<'a>>
-    ensures form { option_map form_seen result
+    ensures { option_map form_seen result
         ≡ three_files_form command.now code.now source.now target.now }
-    ensures within { IfSome result (λ command. IsWithin (form_seen command)) }
 {
-    if target == code || target == source {
-        return None;
-    }
     if command == "encode" {
-        return Some(Command::Encode(code, source, target));
+        return Some(Command::Encode(Encode::of_words(code, source, target)?));
     }
     if command == "decode" {
-        return Some(Command::Decode(code, source, target));
+        return Some(Command::Decode(Decode::of_words(code, source, target)?));
     }
     None
-}
-
-#[tactic(auto, unfolding(crate::specs::Forms::explain_form))]
-fn explain_command<'a>(constraint: &'a str, p: &str, q: &str, bound: &str) -> Option<Command<'a>>
-    ensures form { option_map form_seen result ≡ explain_form constraint.now p.now q.now bound.now }
-    ensures within { IfSome result (λ command. IsWithin (form_seen command)) }
-{
-    let p = number_within(1, 8, p)?;
-    let q = number_within(p, 20, q)?;
-    let bound = number_within(1, 64, bound)?;
-    Some(Command::Explain(constraint, p, q, bound))
-}
-
-/// The number that a word spells, where it is from `least` to `most`.
-fn number_within(least: u32, most: u32, word: &str) -> Option<u32>
-    ensures number { result ≡ number_within least most word.now }
-    ensures within { IfSome result (λ number. (least ≤ number) × (number ≤ most)) }
-{
-    let number = number_in(word.as_bytes())?;
-    if u64::from(least) <= number && number <= u64::from(most) {
-        Some(number as u32)
-    } else {
-        None
-    }
 }

@@ -1,16 +1,8 @@
-//! The commands of the program, from its words to its files.
+//! The program: the forms of its command line, and what it does with its words.
 #![tactic(auto)]
 
 mod arguments;
-mod check;
-mod code_file;
 mod command;
-mod constraint_file;
-mod decode;
-mod encode;
-mod explain;
-mod split_text;
-mod text_file;
 mod top;
 
 pub use arguments::{end_with, run_arguments};

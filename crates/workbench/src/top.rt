@@ -1,21 +1,15 @@
 ghost use Rattle.std.specs.Prelude.{◌≡◌, ◌↔◌, map, string_bytes, IfSome, None};
 ghost use Rattle.command_steps.specs.declared.status.Status.TheVariants as statuses;
 ghost use Rattle.command_steps.specs.Promise.{seen};
-ghost use Rattle.command_steps.specs.Answer.{Shelved};
+ghost use Rattle.command_steps.specs.Inputs.{ReadsFirst};
 ghost use Rattle.command_steps.specs.Printing.{said};
-ghost use Rattle.command_steps.specs.Ends.{Ends, IsExact, Completes, CountsShelf, CountsSink, text_left};
-ghost use Rattle.workbench.specs.Forms.{IsWithin, form_of, output_of};
-ghost use Rattle.workbench.specs.Rows.{row_of};
+ghost use Rattle.command_steps.specs.Ends.{IsExact, Completes, CountsShelf, CountsSink};
+ghost use Rattle.workbench.specs.Forms.{form_of, inputs_of, output_of, row_of};
 ghost use Rattle.workbench.specs.Runs.{Runs};
 ghost use Rattle.workbench.specs.Channel.{KeepsConstraint};
-ghost use Rattle.workbench.specs.Views.{form_seen};
 
-use crate::check::check;
 use crate::command::{Command, command_of};
-use crate::decode::decode;
-use crate::encode::plan_text;
-use crate::explain::explain;
-use command_steps::{Status, deliver, print_all, print_line};
+use command_steps::{Status, perform, print_line};
 use shelf_io::{Shelf, TextSink};
 use std::alloc::Global;
 
@@ -29,7 +23,7 @@ use std::alloc::Global;
 ///
 /// The file that is written is the last name's alone. After a fault of the shelf it may be a front
 /// of the text, or empty; after every other status but `Done` and `SinkFault` no file is changed.
-#[tactic(auto, using(command_steps::proofs::EndLaws::ends, crate::proofs::RowLaws::row_is_single, crate::proofs::ChannelLaws::keeps_constraint))]
+#[tactic(auto, using(code_commands::proofs::RowLaws::rows_are_single, design_commands::proofs::RowLaws::rows_are_single, crate::proofs::ChannelLaws::keeps_constraint))]
 pub fn run<F: Shelf, K: TextSink>(
     alloc: Global,
     words: &[String],
@@ -62,6 +56,11 @@ pub fn run<F: Shelf, K: TextSink>(
     ensures channel { IfSome (form_of (map string_bytes words.now)) (λ form.
         KeepsConstraint form (F.files shelf.old) (F.files shelf.new) result) }
 
+    // The input files are read in order, each to its end, and nothing else is; where one of their
+    // reads can't go on, that decides the status.
+    ensures reads { IfSome (form_of (map string_bytes words.now)) (λ form.
+        ReadsFirst F.read_gives (inputs_of form) shelf.old result) }
+
     // After a fault of the shelf its count rose, and after every other status it is what it was;
     // after a fault of the sink its count rose, and after `Done` it is what it was.
     ensures count { CountsShelf (seen F.files F.faults shelf.old) (seen F.files F.faults shelf.new)
@@ -74,57 +73,9 @@ pub fn run<F: Shelf, K: TextSink>(
             print_line(alloc, out, &Status::Usage);
             Status::Usage
         }
-        Some(command) => ended(alloc, shelf, out, &command),
-    }
-}
-
-#[tactic(auto, using(command_steps::specs::Ends::printed, command_steps::specs::Ends::unprinted, command_steps::specs::Ends::told))]
-fn ended<F: Shelf, K: TextSink>(
-    alloc: Global,
-    shelf: &mut F,
-    out: &mut K,
-    command: &Command<'_>,
-) -> Status
-    requires { IsWithin (form_seen command.now) }
-    ensures { Ends (row_of (form_seen command.now)) (output_of (form_seen command.now))
-        (seen F.files F.faults shelf.old) (seen F.files F.faults shelf.new)
-        (said K.written K.faults out.old) (said K.written K.faults out.new) result }
-{
-    match shelve(alloc, shelf, command) {
-        Ok(text) => match print_all(out, text.as_str().as_bytes()) {
-            Ok(()) => Status::Done,
-            Err(_) => Status::SinkFault,
-        },
-        Err(status) => {
-            print_line(alloc, out, &status);
-            status
-        }
-    }
-}
-
-/// Answers a command and writes its output file; gives what is left to print, or the status.
-#[tactic(auto, using(command_steps::proofs::EndLaws::shelved_on, command_steps::proofs::EndLaws::shelved_stop))]
-fn shelve<F: Shelf>(alloc: Global, shelf: &mut F, command: &Command<'_>) -> Result<String, Status>
-    requires { IsWithin (form_seen command.now) }
-    ensures { Shelved (row_of (form_seen command.now)) (output_of (form_seen command.now))
-        (seen F.files F.faults shelf.old) (seen F.files F.faults shelf.new) (text_left result) }
-{
-    match command {
-        Command::Check(code) => {
-            let reply = check(alloc, shelf, code)?;
-            deliver(shelf, "", reply)
-        }
-        Command::Explain(constraint, p, q, bound) => {
-            let reply = explain(alloc, shelf, constraint, *p, *q, *bound)?;
-            deliver(shelf, "", reply)
-        }
-        Command::Encode(code, source, text) => {
-            let plan = plan_text(alloc, shelf, code, source)?;
-            plan.write(shelf, text)
-        }
-        Command::Decode(code, text, target) => {
-            let reply = decode(alloc, shelf, code, text)?;
-            deliver(shelf, target, reply)
-        }
+        Some(Command::Check(task)) => perform(alloc, &task, shelf, out),
+        Some(Command::Explain(task)) => perform(alloc, &task, shelf, out),
+        Some(Command::Encode(task)) => perform(alloc, &task, shelf, out),
+        Some(Command::Decode(task)) => perform(alloc, &task, shelf, out),
     }
 }

@@ -8,4 +8,4 @@ pub returns : goal.returns
 returns c =
     let table = ap (λ (rows : List (Vec CodeRow)). map (λ (row : Vec CodeRow). row.items) rows) c.as_slice.ensures.value ∙ ap (λ d. d.rows) c.code.view_is in
     c.from_vec.ensures ∙ ap (λ v. v.items) c.into_bytes.ensures.value
-    ∙ parts_spell_code c.args.code.now c.code.inside.constraint _ _ _ _ _ (ap (λ d. d.constraint) c.code.view_is) table c.in_ok-text.ensures.ok c.in_ok-write_constraint.ensures c.in_ok-write_sizes.ensures c.in_ok-write_table.ensures
+    ∙ parts_spell_code c.args.code.now c.code.inside.constraint _ _ _ _ _ (ap (λ d. d.constraint) c.code.view_is) table c.in_ok-text.ensures.ok c.in_ok-write_constraint.ensures.lines c.in_ok-write_sizes.ensures c.in_ok-write_table.ensures

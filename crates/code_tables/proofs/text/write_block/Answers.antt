@@ -8,7 +8,7 @@ pub loop-at-preserved : goal.loop-at-preserved
 loop-at-preserved c =
     let word = symbols_of c.args.alphabet c.args.q c.args.block.value in
     let inside : c.loop-at.at < length word = omega (arith, length-symbols_of c.args.alphabet c.args.q c.args.block.value) in
-    c.in_ok-write_digit.ensures ∙ next_digit _ word _ c.loop-at.at c.symbol.result inside c.symbol.ensures.value c.loop-at.invariant
+    c.in_ok-write_digit.ensures.digit ∙ next_digit _ word _ c.loop-at.at c.symbol.result inside c.symbol.ensures.value c.loop-at.invariant
 
-pub returns : goal.returns
-returns c = c.loop-at.invariant ∙ all_digits _ c.args.alphabet c.args.q c.args.block.value c.loop-at.at (omega arith)
+pub returns-clause-digits : goal.returns-clause-digits
+returns-clause-digits c = c.loop-at.invariant ∙ all_digits _ c.args.alphabet c.args.q c.args.block.value c.loop-at.at (omega arith)

@@ -1,5 +1,4 @@
-use Rattle.std.proofs.Common.{◌≡◌, ◌∙◌, ◌+◌, ◌/◌, ◌%◌, ap, ap₂, sym, arith, subst}
-use Rattle.std.specs.Prelude.{bit_xor}
+use Rattle.std.proofs.Common.{◌≡◌, ◌∙◌, ◌/◌, ap, ap₂, sym, arith, subst}
 use Rattle.gf256.specs.Field.{IsProduct, plus, times}
 use Rattle.gf256.proofs.FieldLaws.{IsProduct-times, zero-plus, plus-zero, zero-times}
 use Rattle.gf256.proofs.Doublings.{doubled_more, halved_more, halved_all, bit_xor-plus}

@@ -4,7 +4,7 @@ use Rattle.std.proofs.lemmas.Nat.{one_shl, pow_pos}
 use Rattle.label_graphs.specs.Kept.{IsKept, marked_states}
 use Rattle.label_graphs.specs.Refinement.{parents_of}
 use Rattle.split_spec.specs.Chain.{RoundsLead}
-use Rattle.state_split.specs.Views.{weighted}
+use Rattle.state_split.specs.Views.{rounds_data, weighted}
 use Rattle.state_split.proofs.StageKept.{listed_inside, end_of_chain}
 use Rattle.state_split.proofs.chain.split_all.Goals as goal
 
@@ -23,7 +23,7 @@ parents_of_kept-requires-clause-inside c =
 pub returns-clause-chain : goal.returns-clause-chain
 returns-clause-chain c =
     let sink = weighted c.args.sink.graph c.args.sink.weights in
-    let rounds = c.in_ok-rounds.rounds.items in
+    let rounds = rounds_data c.in_ok-rounds.rounds.items in
     let stage = c.in_ok-rounds.stage in
     let end = weighted stage.graph stage.weights in
     let marks = c.in_ok-marks.marks.items in
@@ -44,7 +44,7 @@ returns-clause-chain c =
 pub returns-clause-few : goal.returns-clause-few
 returns-clause-few c =
     let sink = weighted c.args.sink.graph c.args.sink.weights in
-    let rounds = c.in_ok-rounds.rounds.items in
+    let rounds = rounds_data c.in_ok-rounds.rounds.items in
     let stage = c.in_ok-rounds.stage in
     let end = weighted stage.graph stage.weights in
     let shifted : (1 * 2 ^ c.args.p) % 2 ^ 32 ≡ 2 ^ c.args.p = one_shl c.args.p 32 (omega (arith, c.requires.p_eight)) in

@@ -9,5 +9,5 @@ compose-requires c =
     let known = c.requires.splits in
     let next = c.in_ok-next.next in
     let g = weighted c.args.stage.now.graph c.args.stage.now.weights in
-    let inside = parents_inside known.0 g c.args.round.now (weighted next.graph next.weights) next.parents (c.in_ok-next.ensures known.0 known.1) in
+    let inside = parents_inside known.0 g c.args.round.now.splits (weighted next.graph next.weights) next.parents (c.in_ok-next.ensures known.0 known.1) in
     subst (λ (m : ℕ). All (λ (parent : ℕ). parent < m) next.parents) (sym c.requires.parents) inside

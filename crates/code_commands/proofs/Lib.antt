@@ -1,0 +1,6 @@
+pub mod RowLaws
+pub mod CheckLaws
+mod CodeLaws
+pub mod DecodeLaws
+mod IncomingLaws
+mod TextLaws

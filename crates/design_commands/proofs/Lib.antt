@@ -1,0 +1,3 @@
+mod ConstraintLaws
+pub mod RowLaws
+mod ExplainLaws

@@ -1,0 +1,4 @@
+pub mod ConstraintFiles
+pub mod Words
+pub mod SplitLines
+pub mod Explain

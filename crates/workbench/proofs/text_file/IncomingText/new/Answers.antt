@@ -1,6 +1,0 @@
-use Rattle.std.proofs.Common.{refl}
-use Rattle.workbench.proofs.IncomingLaws.{nothing_has_come}
-use Rattle.workbench.proofs.text_file.IncomingText.new.Goals as goal
-
-pub returns-clause-come : goal.returns-clause-come
-returns-clause-come c = nothing_has_come c.args.code.now _ c.code-code.ensures.checked.code refl refl c.new-2.ensures.items c.in_ok-new.ensures.come
